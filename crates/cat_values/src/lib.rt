@@ -1,0 +1,21 @@
+//! Values of bounded size that every crate shares: texts, lists and maps, and the records of
+//! databases, tables and partitions made of them. Each can be copied where memory allows it.
+#![tactic(auto)]
+
+mod copying;
+mod list_of;
+mod map_of;
+mod memory;
+mod records;
+mod statistics;
+mod storage;
+mod text;
+
+pub use copying::{CopyParts, TryCopy};
+pub use list_of::{Bytes, LIST_END, ListOf, Texts};
+pub use map_of::{MAP_END, MapOf, Params};
+pub use memory::NoMemory;
+pub use records::{DbRec, PartRec, TableRec};
+pub use statistics::{StatRec, StatValue, Stats};
+pub use storage::{Column, Columns, Order, Orders, PlaceMap, Serde, Skew, Storage, TextLists};
+pub use text::{TEXT_LIMIT, Text, TextFault};

@@ -1,0 +1,32 @@
+//! What the program meets outside itself: sources and sinks of bytes, disks, folders and clocks.
+//! Each is a trait that counts its faults and may tell its content; each has a form over memory,
+//! whose calls fail where a list says so, and sources and sinks have adapters over std's streams.
+#![tactic(auto)]
+
+mod byte_moves;
+mod clock;
+mod disk;
+mod failures;
+mod folder;
+mod mem_clock;
+mod mem_disk;
+mod mem_folder;
+mod mem_sink;
+mod mem_source;
+mod outage;
+mod sink;
+mod source;
+mod stream;
+
+pub use clock::Clock;
+pub use disk::Disk;
+pub use folder::Folder;
+pub use mem_clock::MemClock;
+pub use mem_disk::MemDisk;
+pub use mem_folder::MemFolder;
+pub use mem_sink::MemSink;
+pub use mem_source::MemSource;
+pub use outage::Outage;
+pub use sink::Sink;
+pub use source::Source;
+pub use stream::{StreamSink, StreamSource};
