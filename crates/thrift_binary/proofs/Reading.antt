@@ -1,0 +1,80 @@
+-- Reading one value behind another.
+use Rattle.std.proofs.Common.{◌≡◌, ℕ, ◌+◌, ◌-◌, ℤ, List, ◌++◌, length, Option, Some, Result, Ok, Err, refl, sym, ap, ◌∙◌, subst, arith, inl, inr, add_assoc, length-append, w16, w32, to_z, of_z}
+use mir.Val.{SFits}
+use Rattle.std.proofs.lemmas.Int.{to_z-of_z}
+use Rattle.std.proofs.KnownBytes.{Consumes-trans}
+use Rattle.thrift_binary.specs.declared.fault.WireFault.{WireFault}
+use Rattle.thrift_binary.specs.declared.fault.WireFault.TheVariants.{Truncated, BadWire, TooLarge, ReadFault, NoMemory}
+use Rattle.thrift_binary.specs.Taking.{Took, Reads, moved}
+use Rattle.thrift_binary.specs.Wire.{Behind, IsThen, StopsThen, IsFieldType, StopsFieldType, IsShort, StopsShort, IsField, IsName, StopsName, IsInt, IsNamed}
+
+moved-moved : (i n : ℕ) (f : WireFault) → moved (i + n) f ≡ moved i (moved n f)
+moved-moved i n (Truncated p) = ap Truncated (add_assoc i n p)
+moved-moved i n (BadWire code p) = ap (BadWire code) (add_assoc i n p)
+moved-moved i n (TooLarge p) = ap TooLarge (add_assoc i n p)
+moved-moved i n ReadFault = refl
+moved-moved i n NoMemory = refl
+
+-- what was taken has another property too
+pub Took-weaker : (a b : Option (List ℕ)) (i j : ℕ) (P Q : List ℕ → Type 0) → ((bytes : List ℕ) → P bytes → Q bytes) → Took a b i j P → Took a b i j Q
+Took-weaker a b i j P Q weaker took = record { bytes = took.bytes; consumed = took.consumed; place = took.place; holds = weaker took.bytes took.holds }
+
+-- two things taken, one behind the other
+pub Took-then : (a b c : Option (List ℕ)) (i j k : ℕ) (P Q R : List ℕ → Type 0) → ((front rest : List ℕ) → j ≡ i + length front → P front → Q rest → R (front ++ rest)) → Took a b i j P → Took b c j k Q → Took a c i k R
+Took-then a b c i j k P Q R joined first second = record {
+  bytes = first.bytes ++ second.bytes;
+  consumed = Consumes-trans a b c first.bytes second.bytes first.consumed second.consumed;
+  place = omega (arith, first.place, second.place, length-append first.bytes second.bytes);
+  holds = joined first.bytes second.bytes first.place first.holds second.holds;
+}
+
+module _ {A B : Type 0} (First : A → List ℕ → Type 0) (Stopped : WireFault → List ℕ → Type 0) (Second : A → B → List ℕ → Type 0) (StopsSecond : A → WireFault → List ℕ → Type 0) where
+  stopped_behind : (v : A) (i j : ℕ) (e : WireFault) (front rest : List ℕ) → j ≡ i + length front → First v front → ((f : WireFault) × (e ≡ moved j f) × StopsSecond v f rest) → (f : WireFault) × (e ≡ moved i f) × StopsThen First Stopped StopsSecond f (front ++ rest)
+  stopped_behind v i j e front rest place first stop =
+      (moved (length front) stop.0, stop.1 ∙ ap (λ n. moved n stop.0) place ∙ moved-moved i (length front) stop.0, inr (v, front, rest, stop.0, refl, first, refl, stop.2))
+
+  -- a value was read, and then another, or its fault
+  pub reads_then : (a b c : Option (List ℕ)) (i j k : ℕ) (v : A) (r : Result B WireFault) → Took a b i j (First v) → Reads b c j k r (Second v) (StopsSecond v) → Reads a c i k r (IsThen First Second v) (StopsThen First Stopped StopsSecond)
+  reads_then a b c i j k v (Ok w) first second = Took-then a b c i j k (First v) (Second v w) _ (λ front rest place p q. (front, rest, refl, p, q)) first second
+  reads_then a b c i j k v (Err (Truncated p)) first second = (second.0, Took-then a b c i j k (First v) _ _ (λ front rest place p q. stopped_behind v i j _ front rest place p q) first second.1)
+  reads_then a b c i j k v (Err (BadWire code p)) first second = Took-then a b c i j k (First v) _ _ (λ front rest place p q. stopped_behind v i j _ front rest place p q) first second
+  reads_then a b c i j k v (Err (TooLarge p)) first second = Took-then a b c i j k (First v) _ _ (λ front rest place p q. stopped_behind v i j _ front rest place p q) first second
+  reads_then a b c i j k v (Err ReadFault) first second = (first.bytes ++ second.0, Consumes-trans a b c first.bytes second.0 first.consumed second.1)
+  reads_then a b c i j k v (Err NoMemory) first second = (first.bytes ++ second.0, Consumes-trans a b c first.bytes second.0 first.consumed second.1)
+
+-- the same bytes, said in another way
+pub reads_weaker : {T : Type 0} (a b : Option (List ℕ)) (i j : ℕ) (r : Result T WireFault) (P P' : T → List ℕ → Type 0) (Q Q' : WireFault → List ℕ → Type 0) → ((v : T) (bytes : List ℕ) → P v bytes → P' v bytes) → ((f : WireFault) (bytes : List ℕ) → Q f bytes → Q' f bytes) → Reads a b i j r P Q → Reads a b i j r P' Q'
+reads_weaker a b i j (Ok v) P P' Q Q' p q reads = Took-weaker a b i j (P v) (P' v) (p v) reads
+reads_weaker a b i j (Err (Truncated n)) P P' Q Q' p q reads = (reads.0, Took-weaker a b i j _ _ (λ bytes h. (h.0, h.1, q h.0 bytes h.2)) reads.1)
+reads_weaker a b i j (Err (BadWire code n)) P P' Q Q' p q reads = Took-weaker a b i j _ _ (λ bytes h. (h.0, h.1, q h.0 bytes h.2)) reads
+reads_weaker a b i j (Err (TooLarge n)) P P' Q Q' p q reads = Took-weaker a b i j _ _ (λ bytes h. (h.0, h.1, q h.0 bytes h.2)) reads
+reads_weaker a b i j (Err ReadFault) P P' Q Q' p q reads = reads
+reads_weaker a b i j (Err NoMemory) P P' Q Q' p q reads = reads
+
+-- a fault is a fault of whatever else was to be read, where its stop is one of that
+pub fault_again : {T U : Type 0} (a b : Option (List ℕ)) (i j : ℕ) (e : WireFault) (P : T → List ℕ → Type 0) (P' : U → List ℕ → Type 0) (Q Q' : WireFault → List ℕ → Type 0) → ((f : WireFault) (bytes : List ℕ) → Q f bytes → Q' f bytes) → Reads a b i j (Err e) P Q → Reads a b i j (Err e) P' Q'
+fault_again a b i j (Truncated n) P P' Q Q' q reads = (reads.0, Took-weaker a b i j _ _ (λ bytes h. (h.0, h.1, q h.0 bytes h.2)) reads.1)
+fault_again a b i j (BadWire code n) P P' Q Q' q reads = Took-weaker a b i j _ _ (λ bytes h. (h.0, h.1, q h.0 bytes h.2)) reads
+fault_again a b i j (TooLarge n) P P' Q Q' q reads = Took-weaker a b i j _ _ (λ bytes h. (h.0, h.1, q h.0 bytes h.2)) reads
+fault_again a b i j ReadFault P P' Q Q' q reads = reads
+fault_again a b i j NoMemory P P' Q Q' q reads = reads
+
+-- the id of a field was read behind its type
+pub field_read : (a b c : Option (List ℕ)) (i j k : ℕ) (ty : ℕ) (z : ℤ) → SFits w16 z → Took a b i j (IsFieldType (Some ty)) → Took b c j k (IsShort z) → Took a c i k (IsField (Some (ty, to_z w16 (of_z w16 z))))
+field_read a b c i j k ty z fits first second =
+    subst (λ y. Took a c i k (IsField (Some (ty, y)))) (sym (to_z-of_z w16 z fits))
+    (reads_then IsFieldType StopsFieldType (λ _. IsShort) (Behind (StopsShort 2)) a b c i j k (Some ty) (Ok z) first second)
+
+-- a number was read behind a name
+pub named_read : (a b c : Option (List ℕ)) (i j k : ℕ) (name : List ℕ) (z : ℤ) → SFits w32 z → Took a b i j (IsName name) → Took b c j k (IsInt z) → Took a c i k (IsNamed (name, to_z w32 (of_z w32 z)))
+named_read a b c i j k name z fits first second =
+    subst (λ y. Took a c i k (IsNamed (name, y))) (sym (to_z-of_z w32 z fits))
+    (reads_then IsName StopsName (λ _. IsInt) (λ _. StopsShort 4) a b c i j k name (Ok z) first second)
+
+-- more of n bytes were to be read behind some of them, and they ended too soon
+pub short_behind : (n : ℕ) (f : WireFault) (bytes : List ℕ) → StopsThen {A = List ℕ} (λ front xs. xs ≡ front) (λ _ _. ⊥) (λ front. StopsShort (n - length front)) f bytes → StopsShort n f bytes
+short_behind n f bytes (inl none) = absurd none
+short_behind n f bytes (inr h) =
+    let len : length bytes ≡ length h.1 + length h.2 = ap length h.4 ∙ length-append h.1 h.2 in
+    let same : length h.1 ≡ length h.0 = ap length h.5 in
+    (h.6 ∙ ap (moved (length h.1)) h.7.0 ∙ ap Truncated (sym len), omega (arith, h.7.1, len, same))

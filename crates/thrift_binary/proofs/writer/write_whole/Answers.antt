@@ -1,0 +1,10 @@
+use Rattle.std.proofs.Common.{arith}
+use Rattle.thrift_binary.proofs.SinkLemmas.{Grew-more}
+use Rattle.thrift_binary.proofs.writer.write_whole.Goals as goal
+
+pub loop-at-preserved : goal.loop-at-preserved
+loop-at-preserved g c = record {
+  bound = omega (arith, c.in-Ok.ensures.bound);
+  written = Grew-more _ _ _ c.loop-at.at c.in-Ok.count c.args.message.now c.loop-at.invariant.written c.in-Ok.ensures.bytes;
+  faults = omega (arith, c.write.ensures.cause.later);
+}

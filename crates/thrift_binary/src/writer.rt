@@ -1,0 +1,149 @@
+//! Gathering one message in memory, and sending it.
+
+ghost use Rattle.std.specs.Prelude.{◌≡◌, ◌<◌, ◌≤◌, ◌^◌, ◌++◌, [], ◌∷◌, ℕ, pos, take, IsErrOf, OnErr, OnOk};
+ghost use Rattle.hms_outside.specs.Causes.{Rose};
+ghost use Rattle.hms_outside.specs.Told.{Goes, Grew};
+ghost use Rattle.thrift_binary.specs.Sending.{Gathers, Sent};
+ghost use Rattle.thrift_binary.specs.Wire.{field_bytes, head_bytes, int_bytes, text_bytes};
+
+use crate::{Head, SendFault};
+use cat_values::{NoMemory, Text};
+use hms_outside::{Outage, Sink};
+use std::alloc::Global;
+use std::marker::Model;
+
+/// One message, as far as it is gathered, in the strict spelling of Thrift's binary protocol. After
+/// `NoMemory` of a call the gathered bytes begin with what they were.
+#[derive(Drop)]
+pub struct WireWriter {
+    out: Vec<u8>,
+}
+
+impl Model for WireWriter {
+    ghost use Rattle.std.specs.Prelude.{List, ℕ};
+
+    ghost Value = { List ℕ };
+
+    ghost view = { λ w. w.out.items };
+}
+
+impl WireWriter {
+    /// A writer that has gathered nothing.
+    pub fn new(alloc: Global) -> WireWriter
+        ensures { result ≡ [] }
+    {
+        WireWriter {
+            out: Vec::new(alloc),
+        }
+    }
+
+    fn raw(&mut self, bytes: &[u8]) -> Result<(), NoMemory>
+        ensures { Gathers self.old self.new result bytes.now }
+    {
+        self.out.extend_from_slice(bytes)?;
+        Ok(())
+    }
+
+    fn code(&mut self, code: u8) -> Result<(), NoMemory>
+        ensures { Gathers self.old self.new result (code ∷ []) }
+    {
+        self.out.push(code)?;
+        Ok(())
+    }
+
+    /// A number of four bytes.
+    pub fn int(&mut self, value: i32) -> Result<(), NoMemory>
+        ensures { Gathers self.old self.new result (int_bytes value) }
+    {
+        self.raw(&value.to_be_bytes())
+    }
+
+    /// A text.
+    pub fn text(&mut self, value: &Text) -> Result<(), NoMemory>
+        ensures { Gathers self.old self.new result (text_bytes value.now) }
+    {
+        self.int(value.len() as i32)?;
+        self.raw(value.as_str().as_bytes())
+    }
+
+    /// The type and the id of a field.
+    pub fn field(&mut self, ty: u8, id: i16) -> Result<(), NoMemory>
+        ensures { Gathers self.old self.new result (field_bytes ty id) }
+    {
+        self.code(ty)?;
+        self.raw(&id.to_be_bytes())
+    }
+
+    /// The end of a struct.
+    pub fn stop(&mut self) -> Result<(), NoMemory>
+        ensures { Gathers self.old self.new result (0 ∷ []) }
+    {
+        self.code(0)
+    }
+
+    /// The strict head of a message.
+    pub fn head(&mut self, head: &Head) -> Result<(), NoMemory>
+        ensures { Gathers self.old self.new result (head_bytes 0 head.now.kind head.now.name head.now.sequence) }
+    {
+        self.raw(&[128, 1, 0, head.kind])?;
+        self.text(&head.name)?;
+        self.int(head.sequence)
+    }
+
+    /// The head of a list: the type of its elements, and how many they are.
+    pub fn list(&mut self, ty: u8, count: u32) -> Result<(), NoMemory>
+        requires { count < 2 ^ 31 }
+        ensures { Gathers self.old self.new result (ty ∷ int_bytes (pos count)) }
+    {
+        self.code(ty)?;
+        self.int(count as i32)
+    }
+
+    /// Writes the gathered message whole, and flushes once. After `Ok` the writer is empty and
+    /// keeps its room for the next message; after an `Err` a front of the message was written.
+    pub fn send<K: Sink>(&mut self, sink: &mut K) -> Result<(), SendFault>
+        ensures ok { OnOk result (Goes (Sent self.old) (K.held sink.old) (K.held sink.new)) }
+        ensures emptied { OnOk result (self.new ≡ []) }
+        ensures err { OnErr result ((n : ℕ) × Goes (Grew (take n self.old)) (K.held sink.old) (K.held sink.new)) }
+        ensures stays { OnErr result (self.new ≡ self.old) }
+        ensures later { K.faults sink.old ≤ K.faults sink.new }
+        ensures cause { IsErrOf result SendFault.WriteFault → Rose (K.faults sink.old) (K.faults sink.new) }
+    {
+        send_whole(sink, &self.out)?;
+        self.out.clear();
+        Ok(())
+    }
+}
+
+// Writes all the bytes, and flushes.
+fn send_whole<K: Sink>(sink: &mut K, message: &[u8]) -> Result<(), SendFault>
+    ensures ok { OnOk result (Goes (Sent message.now) (K.held sink.old) (K.held sink.new)) }
+    ensures err { OnErr result ((n : ℕ) × Goes (Grew (take n message.now)) (K.held sink.old) (K.held sink.new)) }
+    ensures later { K.faults sink.old ≤ K.faults sink.new }
+    ensures cause { IsErrOf result SendFault.WriteFault → Rose (K.faults sink.old) (K.faults sink.new) }
+{
+    write_whole(sink, message)?;
+    match sink.flush() {
+        Ok(()) => Ok(()),
+        Err(Outage::Failed) => Err(SendFault::WriteFault),
+        Err(Outage::NoMemory) => Err(SendFault::NoMemory),
+    }
+}
+
+// Writes all the bytes.
+fn write_whole<K: Sink>(sink: &mut K, message: &[u8]) -> Result<(), SendFault>
+    ensures ok { OnOk result (Goes (Grew message.now) (K.held sink.old) (K.held sink.new)) }
+    ensures err { OnErr result ((n : ℕ) × Goes (Grew (take n message.now)) (K.held sink.old) (K.held sink.new)) }
+    ensures later { K.faults sink.old ≤ K.faults sink.new }
+    ensures cause { IsErrOf result SendFault.WriteFault → Rose (K.faults sink.old) (K.faults sink.new) }
+{
+    let mut at = 0;
+    while at < message.len() {
+        match sink.write(&message[at..]) {
+            Ok(count) => at += count,
+            Err(Outage::Failed) => return Err(SendFault::WriteFault),
+            Err(Outage::NoMemory) => return Err(SendFault::NoMemory),
+        }
+    }
+    Ok(())
+}
