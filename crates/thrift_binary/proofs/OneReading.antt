@@ -13,7 +13,7 @@ use Rattle.thrift_binary.specs.declared.head.Head.{Head}
 use Rattle.thrift_binary.specs.declared.fault.WireFault.{WireFault}
 use Rattle.thrift_binary.specs.declared.fault.WireFault.TheVariants.{Truncated, BadWire, TooLarge, ReadFault, NoMemory}
 use Rattle.thrift_binary.specs.Taking.{moved}
-use Rattle.thrift_binary.specs.Wire.{int_bytes, text_bytes, head_bytes, Behind, IsThen, StopsThen, IsInt, StopsShort, IsLength, StopsLength, IsBody, IsString, StopsString, IsText, IsName, StopsName, IsCode, IsFieldType, StopsFieldType, IsField, StopsField, IsWord, IsStrict, StopsWord, IsNamed, StopsNamed, IsHead, StopsHead, StopsNothing, IsMessage, StopsMessage, BeginsWithMessage, Fits, Spells, IsCut, StopsAreNoMessages, MessagesReadOneWay}
+use Rattle.thrift_binary.specs.Wire.{int_bytes, text_bytes, head_bytes, Behind, IsThen, StopsThen, IsInt, StopsShort, IsLength, StopsLength, IsBody, IsString, StopsString, IsText, IsName, StopsName, IsCode, IsFieldType, StopsFieldType, IsField, StopsField, IsWord, IsStrict, StopsWord, IsNamed, StopsNamed, IsHead, StopsHead, StopsNothing, IsMessage, StopsMessage, BeginsWithMessage, Fits, Spells, IsCut, WasCut, StopsAreNoMessages, MessagesReadOneWay}
 
 -- fronts of one length are equal
 front_same : (x y u v : List ℕ) → length x ≡ length y → x ++ u ≡ y ++ v → x ≡ y
@@ -58,17 +58,24 @@ one_string a b x y u v p q e =
 
 -- the input ended before the value did
 abbrev Short : WireFault → List ℕ → List ℕ → Type 0
-Short f x y = IsCut f × (length x < length y)
+Short f x y = WasCut f × (length x < length y)
 
-cut_moved : (n : ℕ) (f : WireFault) → IsCut f → IsCut (moved n f)
+cut_moved : (n : ℕ) (f : WireFault) → WasCut f → WasCut (moved n f)
 cut_moved n (Truncated p) cut = tt
 cut_moved n (BadWire code p) cut = absurd cut
 cut_moved n (TooLarge p) cut = absurd cut
-cut_moved n ReadFault cut = absurd cut
-cut_moved n NoMemory cut = absurd cut
+cut_moved n ReadFault cut = tt
+cut_moved n NoMemory cut = tt
+
+was_cut : (n : ℕ) (f : WireFault) → IsCut f n → WasCut f
+was_cut n (Truncated p) cut = tt
+was_cut n (BadWire code p) cut = cut
+was_cut n (TooLarge p) cut = cut
+was_cut n ReadFault cut = tt
+was_cut n NoMemory cut = tt
 
 short_here : (n : ℕ) (f : WireFault) (x y : List ℕ) → StopsShort n f x → length y ≡ n → Short f x y
-short_here n f x y stop len = (subst IsCut (sym stop.0) tt, omega (arith, stop.1, len))
+short_here n f x y stop len = (was_cut (length x) f stop.0, omega (arith, stop.1, len))
 
 -- what two values behind one another need: the first is one, and the second hinders
 module _ {A B : Type 0} (First : A → List ℕ → Type 0) (Stopped : WireFault → List ℕ → Type 0) (Second : A → B → List ℕ → Type 0) (StopsSecond : A → WireFault → List ℕ → Type 0) where
@@ -89,7 +96,7 @@ module _ {A B : Type 0} (First : A → List ℕ → Type 0) (Stopped : WireFault
       let len_x : length x ≡ length p.1 + length p.2 = ap length p.4 ∙ length-append p.1 p.2 in
       let len_y : length y ≡ length q.0 + length q.1 = ap length q.2 ∙ length-append q.0 q.1 in
       let fronts : length p.1 ≡ length q.0 = ap length same.1 in
-      (subst IsCut (sym p.6) (cut_moved (length p.1) p.3 s.0), omega (arith, s.1, len_x, len_y, fronts))
+      (subst WasCut (sym p.6) (cut_moved (length p.1) p.3 s.0), omega (arith, s.1, len_x, len_y, fronts))
 
 hinders_length : (n : ℕ) (f : WireFault) (x y u v : List ℕ) → StopsLength f x → IsLength n y → x ++ u ≡ y ++ v → Short f x y
 hinders_length n f x y u v (inl short) q e = short_here 4 f x y short (ap length q.0)

@@ -11,9 +11,11 @@ pub record Took (old new : Option (List ℕ)) (from to : ℕ) (P : List ℕ → 
   pub place : to ≡ from + length bytes
   pub holds : P bytes
 
--- bytes of which nothing is said were taken
-abbrev pub TookSome : Option (List ℕ) → Option (List ℕ) → Type 0
-TookSome old new = (bytes : List ℕ) × Consumes old new bytes
+-- the same, where the reader doesn't tell how many they were
+pub record TookSome (old new : Option (List ℕ)) (P : List ℕ → Type 0) : Type 0 where
+  pub bytes : List ℕ
+  pub consumed : Consumes old new bytes
+  pub holds : P bytes
 
 -- a fault whose place is counted from a later byte on
 abbrev pub moved : ℕ → WireFault → WireFault
@@ -29,5 +31,5 @@ Reads old new from to (Ok value) Spelled Stopped = Took old new from to (Spelled
 Reads old new from to (Err (Truncated p)) Spelled Stopped = IsAtEnd new × Took old new from to (λ bytes. (f : WireFault) × (Truncated p ≡ moved from f) × Stopped f bytes)
 Reads old new from to (Err (BadWire code p)) Spelled Stopped = Took old new from to (λ bytes. (f : WireFault) × (BadWire code p ≡ moved from f) × Stopped f bytes)
 Reads old new from to (Err (TooLarge p)) Spelled Stopped = Took old new from to (λ bytes. (f : WireFault) × (TooLarge p ≡ moved from f) × Stopped f bytes)
-Reads old new from to (Err ReadFault) Spelled Stopped = TookSome old new
-Reads old new from to (Err NoMemory) Spelled Stopped = TookSome old new
+Reads old new from to (Err ReadFault) Spelled Stopped = TookSome old new (Stopped ReadFault)
+Reads old new from to (Err NoMemory) Spelled Stopped = TookSome old new (Stopped NoMemory)

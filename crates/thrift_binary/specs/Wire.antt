@@ -4,7 +4,7 @@ use Rattle.thrift_binary.specs.declared.head.Head.{Head}
 use Rattle.std.specs.Str.{IsUtf8}
 use Rattle.std.specs.Int.{w16, w32, to_be_bytes, cast_unsigned}
 use Rattle.thrift_binary.specs.declared.fault.WireFault.{WireFault}
-use Rattle.thrift_binary.specs.declared.fault.WireFault.TheVariants.{Truncated, BadWire, TooLarge}
+use Rattle.thrift_binary.specs.declared.fault.WireFault.TheVariants.{Truncated, BadWire, TooLarge, ReadFault, NoMemory}
 use Rattle.cat_values.specs.declared.text.TheConstants.{TEXT_LIMIT}
 use Rattle.thrift_binary.specs.Taking.{moved}
 
@@ -63,9 +63,17 @@ IsShort n bytes = (bytes ≡ short_bytes n) × FitsSigned w16 n
 abbrev pub IsInt : ℤ → List ℕ → Type 0
 IsInt n bytes = (bytes ≡ int_bytes n) × FitsSigned w32 n
 
--- fewer bytes than n, at the end of the input
+-- nothing is wrong with the bytes that came: the input ended behind them, or no more could be read
+abbrev pub IsCut : WireFault → ℕ → Type 0
+IsCut (Truncated place) n = place ≡ n
+IsCut (BadWire code place) n = ⊥
+IsCut (TooLarge place) n = ⊥
+IsCut ReadFault n = Unit {0}
+IsCut NoMemory n = Unit {0}
+
+-- fewer bytes than n came
 abbrev pub StopsShort : ℕ → WireFault → List ℕ → Type 0
-StopsShort n fault bytes = (fault ≡ Truncated (length bytes)) × (length bytes < n)
+StopsShort n fault bytes = IsCut fault (length bytes) × (length bytes < n)
 
 -- a value of one kind, and behind it one of another
 abbrev pub IsThen : {A B : Type 0} → (A → List ℕ → Type 0) → (A → B → List ℕ → Type 0) → A → B → List ℕ → Type 0
@@ -146,7 +154,7 @@ IsStrict bytes = (third kind : ℕ) × (bytes ≡ 128 ∷ 1 ∷ third ∷ kind �
 
 abbrev pub StopsWord : WireFault → List ℕ → Type 0
 StopsWord fault bytes =
-    (StopsShort 4 fault bytes × (0 < length bytes))
+    (StopsShort 4 fault bytes × (fault ≢ Truncated 0))
     ⊎ ((length bytes ≡ 4) × (IsStrict bytes → ⊥) × (fault ≡ BadWire 1 0))
     ⊎ ((third kind : ℕ) × (bytes ≡ 128 ∷ 1 ∷ third ∷ kind ∷ []) × (kind ≢ 1) × (fault ≡ BadWire 2 3))
 
@@ -179,14 +187,17 @@ StopsMessage = StopsThen IsHead StopsHead (Behind StopsNothing)
 
 -- ---- laws
 
--- the input ended
-abbrev pub IsCut : WireFault → Type 0
-IsCut (Truncated place) = Unit {0}
-IsCut _ = ⊥
+-- the bytes were cut short
+abbrev pub WasCut : WireFault → Type 0
+WasCut (Truncated place) = Unit {0}
+WasCut (BadWire code place) = ⊥
+WasCut (TooLarge place) = ⊥
+WasCut ReadFault = Unit {0}
+WasCut NoMemory = Unit {0}
 
--- where bytes stop to be a message no whole message begins, however they go on; where they are cut short they end there
+-- where bytes stop to be a message no whole message begins, however they go on; where they were cut short nothing is behind them
 abbrev pub StopsAreNoMessages : Type 0
-StopsAreNoMessages = (fault : WireFault) (bytes more : List ℕ) → StopsMessage fault bytes → (IsCut fault → more ≡ []) → BeginsWithMessage (bytes ++ more) → ⊥
+StopsAreNoMessages = (fault : WireFault) (bytes more : List ℕ) → StopsMessage fault bytes → (WasCut fault → more ≡ []) → BeginsWithMessage (bytes ++ more) → ⊥
 
 -- bytes are at most one list of messages
 abbrev pub MessagesReadOneWay : Type 0

@@ -11,7 +11,7 @@ pub fn fill<S: Source>(source: &mut S, buf: &mut [u8]) -> Result<usize, Outage>
     ensures bound { IfOk result (λ n. n ≤ length buf.old) }
     ensures bytes { IfOk result (λ n. Consumes (S.left source.old) (S.left source.new) (take n buf.new)) }
     ensures end { IfOk result (λ n. n < length buf.old → IsAtEnd (S.left source.new)) }
-    ensures err { OnErr result ((n : ℕ) × Consumes (S.left source.old) (S.left source.new) (take n buf.new)) }
+    ensures err { OnErr result ((n : ℕ) × (n < length buf.old) × Consumes (S.left source.old) (S.left source.new) (take n buf.new)) }
     ensures later { S.faults source.old ≤ S.faults source.new }
     ensures cause { IsErrOf result Outage.Failed → Rose (S.faults source.old) (S.faults source.new) }
 {

@@ -40,7 +40,8 @@ impl<'a, S: Source> WireReader<'a, S> {
 
     // Fills the whole buffer.
     fn exact(&mut self, buf: &mut [u8]) -> Result<(), WireFault>
-        requires { length buf.old ≤ 2 ^ 32 }
+        requires some { 0 < length buf.old }
+        requires bounded { length buf.old ≤ 2 ^ 32 }
         ensures same_source { self.new.source.ghost_name ≡ self.old.source.ghost_name }
         ensures later { S.faults self.old.source.now ≤ S.faults self.new.source.now }
         ensures cause { IsErrOf result WireFault.ReadFault → Rose (S.faults self.old.source.now) (S.faults self.new.source.now) }
@@ -209,8 +210,12 @@ impl<'a, S: Source> WireReader<'a, S> {
                 }
                 Ok(Some(word[3]))
             }
-            Err(WireFault::Truncated(end)) if end == start => Ok(None),
-            Err(fault) => Err(fault),
+            Err(fault) => {
+                if is_cut_at(fault, start) {
+                    return Ok(None);
+                }
+                Err(fault)
+            }
         }
     }
 
@@ -325,6 +330,16 @@ fn is_strict(word: &[u8]) -> bool
     ensures { IsTrue result ↔ IsStrict word.now }
 {
     word[0] == 128 && word[1] == 1
+}
+
+// Whether the input ended at this place.
+fn is_cut_at(fault: WireFault, place: u64) -> bool
+    ensures { IsTrue result ↔ (fault ≡ WireFault.Truncated place) }
+{
+    match fault {
+        WireFault::Truncated(end) => end == place,
+        _ => false,
+    }
 }
 
 // Whether this is the code of a type.

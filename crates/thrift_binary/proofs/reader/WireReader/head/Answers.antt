@@ -1,10 +1,15 @@
-use Rattle.std.proofs.Common.{Err, Some, rules, w32}
+use Rattle.std.proofs.Common.{Err, Some, rules, inl, w32}
 use mir.Val.{SFits}
 use Rattle.std.proofs.lemmas.Result.{err_from_is_err_and}
 use Rattle.thrift_binary.specs.Wire.{Behind, IsWord, StopsWord, IsNamed, StopsNamed, IsHead, StopsHead}
 use Rattle.thrift_binary.proofs.Reading.{reads_then, fault_again}
 use Rattle.thrift_binary.proofs.Messages.{head_read}
 use Rattle.thrift_binary.proofs.reader.WireReader.head.Goals as goal
+
+pub returns-in_err-kind-clause-reads : goal.returns-in_err-kind-clause-reads
+returns-in_err-kind-clause-reads g c =
+    let p = err_from_is_err_and c.from_residual.result c.from_residual.ensures.1 in
+    rw (p.1, p.2) (fault_again _ _ _ _ c.in_err-kind.field-0.0 _ IsHead _ StopsHead (λ f bytes h. inl h) c.in_err-kind.ensures.reads)
 
 pub returns-in_err-name-clause-reads : goal.returns-in_err-name-clause-reads
 returns-in_err-name-clause-reads g c =
