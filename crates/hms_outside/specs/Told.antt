@@ -1,5 +1,5 @@
 -- What an outside object tells of itself, and how calls change it.
-use Rattle.std.specs.Prelude.{◌≡◌, ℕ, ⊤, List, [], ◌∷◌, ◌++◌, length, take, Option, None, Some, Result, MatchResult}
+use Rattle.std.specs.Prelude.{◌≡◌, ℕ, ◌+◌, ⊤, List, [], ◌∷◌, ◌++◌, length, take, Option, None, Some, Result, MatchResult}
 
 -- an object that tells goes from one to the other in this way, and goes on telling
 abbrev pub Goes : {X : Type 0} → (X → X → Type 0) → Option X → Option X → Type 0
@@ -25,6 +25,11 @@ pub record Grew (bytes : List ℕ) (old new : Held) : Type 0 where
 pub record Flushed (old new : Held) : Type 0 where
   pub bytes_stay : new.bytes ≡ old.bytes
   pub flushes_grew : new.flushes ≡ old.flushes ++ length old.bytes ∷ []
+
+-- these bytes were added whole, and flushed
+pub record Sent (bytes : List ℕ) (old new : Held) : Type 0 where
+  pub bytes_grew : new.bytes ≡ old.bytes ++ bytes
+  pub flushes_grew : new.flushes ≡ old.flushes ++ (length old.bytes + length bytes) ∷ []
 
 -- what a write answered and did
 abbrev pub Writes : {E : Type 0} → Option Held → Option Held → Result ℕ E → List ℕ → Type 0

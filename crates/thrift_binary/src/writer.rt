@@ -2,13 +2,13 @@
 
 ghost use Rattle.std.specs.Prelude.{◌≡◌, ◌<◌, ◌≤◌, ◌^◌, ◌++◌, [], ◌∷◌, ℕ, pos, take, IsErrOf, OnErr, OnOk};
 ghost use Rattle.hms_outside.specs.Causes.{Rose};
-ghost use Rattle.hms_outside.specs.Told.{Goes, Grew};
-ghost use Rattle.thrift_binary.specs.Sending.{Gathers, Sent};
+ghost use Rattle.hms_outside.specs.Told.{Goes, Grew, Sent};
+ghost use Rattle.thrift_binary.specs.Sending.{Gathers};
 ghost use Rattle.thrift_binary.specs.Wire.{field_bytes, head_bytes, int_bytes, text_bytes};
 
 use crate::{Head, SendFault};
 use cat_values::{NoMemory, Text};
-use hms_outside::{Outage, Sink};
+use hms_outside::{Outage, Sink, send_all};
 use std::alloc::Global;
 use std::marker::Model;
 
@@ -109,41 +109,13 @@ impl WireWriter {
         ensures later { K.faults sink.old ≤ K.faults sink.new }
         ensures cause { IsErrOf result SendFault.WriteFault → Rose (K.faults sink.old) (K.faults sink.new) }
     {
-        send_whole(sink, &self.out)?;
-        self.out.clear();
-        Ok(())
-    }
-}
-
-// Writes all the bytes, and flushes.
-fn send_whole<K: Sink>(sink: &mut K, message: &[u8]) -> Result<(), SendFault>
-    ensures ok { OnOk result (Goes (Sent message.now) (K.held sink.old) (K.held sink.new)) }
-    ensures err { OnErr result ((n : ℕ) × Goes (Grew (take n message.now)) (K.held sink.old) (K.held sink.new)) }
-    ensures later { K.faults sink.old ≤ K.faults sink.new }
-    ensures cause { IsErrOf result SendFault.WriteFault → Rose (K.faults sink.old) (K.faults sink.new) }
-{
-    write_whole(sink, message)?;
-    match sink.flush() {
-        Ok(()) => Ok(()),
-        Err(Outage::Failed) => Err(SendFault::WriteFault),
-        Err(Outage::NoMemory) => Err(SendFault::NoMemory),
-    }
-}
-
-// Writes all the bytes.
-fn write_whole<K: Sink>(sink: &mut K, message: &[u8]) -> Result<(), SendFault>
-    ensures ok { OnOk result (Goes (Grew message.now) (K.held sink.old) (K.held sink.new)) }
-    ensures err { OnErr result ((n : ℕ) × Goes (Grew (take n message.now)) (K.held sink.old) (K.held sink.new)) }
-    ensures later { K.faults sink.old ≤ K.faults sink.new }
-    ensures cause { IsErrOf result SendFault.WriteFault → Rose (K.faults sink.old) (K.faults sink.new) }
-{
-    let mut at = 0;
-    while at < message.len() {
-        match sink.write(&message[at..]) {
-            Ok(count) => at += count,
-            Err(Outage::Failed) => return Err(SendFault::WriteFault),
-            Err(Outage::NoMemory) => return Err(SendFault::NoMemory),
+        match send_all(sink, &self.out) {
+            Ok(()) => {
+                self.out.clear();
+                Ok(())
+            }
+            Err(Outage::Failed) => Err(SendFault::WriteFault),
+            Err(Outage::NoMemory) => Err(SendFault::NoMemory),
         }
     }
-    Ok(())
 }

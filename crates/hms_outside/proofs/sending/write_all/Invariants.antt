@@ -1,6 +1,6 @@
 use Rattle.std.proofs.Common.{◌-◌, ◌≤◌, length, take}
 use Rattle.hms_outside.specs.Told.{Goes, Grew}
-use Rattle.thrift_binary.proofs.writer.write_whole.Given as goal
+use Rattle.hms_outside.proofs.sending.write_all.Given as goal
 
 abbrev pub invariant-loop-at : goal.invariant-loop-at
 invariant-loop-at g l = record {

@@ -1,6 +1,6 @@
 use Rattle.std.proofs.Common.{arith}
-use Rattle.thrift_binary.proofs.SinkLemmas.{Grew-more}
-use Rattle.thrift_binary.proofs.writer.write_whole.Goals as goal
+use Rattle.hms_outside.proofs.SinkLemmas.{Grew-more}
+use Rattle.hms_outside.proofs.sending.write_all.Goals as goal
 
 pub loop-at-preserved : goal.loop-at-preserved
 loop-at-preserved g c = record {
