@@ -60,7 +60,7 @@ one_string a b x y u v p q e =
 abbrev Short : WireFault → List ℕ → List ℕ → Type 0
 Short f x y = WasCut f × (length x < length y)
 
-cut_moved : (n : ℕ) (f : WireFault) → WasCut f → WasCut (moved n f)
+pub cut_moved : (n : ℕ) (f : WireFault) → WasCut f → WasCut (moved n f)
 cut_moved n (Truncated p) cut = tt
 cut_moved n (BadWire code p) cut = absurd cut
 cut_moved n (TooLarge p) cut = absurd cut
@@ -267,7 +267,7 @@ no_message f bytes more stop ends begins =
     let none : length more ≡ 0 = ap length nothing in
     omega (arith, s.1, len, none)
 
-some_message : (head : Head) (front rest : List ℕ) → IsMessage head front → [] ≡ front ++ rest → ⊥
+pub some_message : (head : Head) (front rest : List ℕ) → IsMessage head front → [] ≡ front ++ rest → ⊥
 some_message head front rest m e =
     let whole : length front ≡ length (head_bytes m.third head.kind head.name head.sequence) + 1 = ap length m.spelled ∙ length-append (head_bytes m.third head.kind head.name head.sequence) (0 ∷ []) in
     omega (arith, whole, ap length e ∙ length-append front rest)
@@ -280,3 +280,57 @@ one_spelling (h ∷ hs) (o ∷ os) bytes p q =
     let fronts = one_message h o p.0 q.0 p.1 q.1 p.3 q.3 (sym p.2 ∙ q.2) in
     let rests = rest_same p.0 q.0 p.1 q.1 fronts.1 (sym p.2 ∙ q.2) in
     ap (λ (m : Head). m ∷ hs) fronts.0 ∙ ap (λ ms. o ∷ ms) (one_spelling hs os p.1 p.4 (subst (Spells os) (sym rests) q.4))
+
+-- ---- a stop has some bytes before it
+
+-- the fault has a place
+abbrev pub IsPlaced : WireFault → Type 0
+IsPlaced (Truncated p) = Unit {0}
+IsPlaced (BadWire code p) = Unit {0}
+IsPlaced (TooLarge p) = Unit {0}
+IsPlaced ReadFault = ⊥
+IsPlaced NoMemory = ⊥
+
+pub placed_moved : (n : ℕ) (f : WireFault) → IsPlaced (moved n f) → IsPlaced f
+placed_moved n (Truncated p) placed = tt
+placed_moved n (BadWire code p) placed = tt
+placed_moved n (TooLarge p) placed = tt
+placed_moved n ReadFault placed = placed
+placed_moved n NoMemory placed = placed
+
+none_cut : (f : WireFault) → IsPlaced f → IsCut f 0 → f ≡ Truncated 0
+none_cut (Truncated p) placed cut = ap Truncated cut
+none_cut (BadWire code p) placed cut = absurd cut
+none_cut (TooLarge p) placed cut = absurd cut
+none_cut ReadFault placed cut = absurd placed
+none_cut NoMemory placed cut = absurd placed
+
+no_word : (kind : ℕ) (front rest : List ℕ) → IsWord (Some kind) front → [] ≡ front ++ rest → ⊥
+no_word kind front rest word e =
+    let four : length front ≡ 4 = ap length word.1 in
+    omega (arith, four, ap length e ∙ length-append front rest)
+
+some_word : (f : WireFault) → IsPlaced f → StopsWord f [] → ⊥
+some_word f placed (inl short) = short.1 (none_cut f placed short.0.0)
+some_word f placed (inr (inl h)) = absurd (omega (arith, h.0))
+some_word f placed (inr (inr h)) = absurd (omega (arith, ap length h.2))
+
+some_named : (a : Option ℕ) (g : WireFault) (front rest : List ℕ) → IsWord a front → Behind StopsNamed a g rest → [] ≡ front ++ rest → ⊥
+some_named None g front rest word stop e = stop
+some_named (Some kind) g front rest word stop e = no_word kind front rest word e
+
+some_head : (f : WireFault) → IsPlaced f → StopsHead f [] → ⊥
+some_head f placed (inl stop) = some_word f placed stop
+some_head f placed (inr p) = some_named p.0 p.3 p.1 p.2 p.5 p.7 p.4
+
+some_end : (a : Option Head) (g : WireFault) (front rest : List ℕ) → IsHead a front → Behind StopsNothing a g rest → [] ≡ front ++ rest → ⊥
+some_end None g front rest head stop e = stop
+some_end (Some h) g front rest head stop e = no_word h.kind head.0 (head.1 ++ rest) head.3 (e ∙ ap (λ t. t ++ rest) head.2 ∙ append_assoc head.0 head.1 rest)
+
+some_message_stop : (f : WireFault) → IsPlaced f → StopsMessage f [] → ⊥
+some_message_stop f placed (inl stop) = some_head f placed stop
+some_message_stop f placed (inr p) = some_end p.0 p.3 p.1 p.2 p.5 p.7 p.4
+
+-- where a message stops for a cause that has a place, something was taken
+pub some_stopped : (f : WireFault) (bytes : List ℕ) → IsPlaced f → StopsMessage f bytes → bytes ≢ []
+some_stopped f bytes placed stop none = some_message_stop f placed (subst (StopsMessage f) none stop)

@@ -1,0 +1,60 @@
+//! The metastore's program: `metastore STORE DUMPS COMMAND ..`.
+#![tactic(auto)]
+
+use hms_outside::{MemClock, MemDisk, MemFolder, StreamSink, StreamSource};
+use ms_cli::{LocalEnd, run_local};
+use std::alloc::{AllocError, Global};
+use std::env;
+use std::process::ExitCode;
+use std::rt::Env;
+
+/// How many words stand before the command: the program's own name, the store and the dumps.
+const BEFORE: usize = 3;
+
+fn main(rt: HostRuntime) -> ExitCode {
+    let Ok(words) = words(&rt) else {
+        return ExitCode::from(10);
+    };
+    let alloc = rt.alloc();
+    let mut input = StreamSource::new(alloc, rt.stdin());
+    let mut output = StreamSink::new(alloc, rt.stdout());
+    let mut errors = StreamSink::new(alloc, rt.stderr());
+    let mut folder = MemFolder::new(alloc, Vec::new(alloc));
+    let mut clock = MemClock::new(Vec::new(alloc));
+    let LocalEnd {
+        status,
+        disk_a: _,
+        disk_b: _,
+    } = run_local(
+        alloc,
+        command(&words),
+        &mut input,
+        &mut output,
+        &mut errors,
+        MemDisk::new(alloc, Vec::new(alloc)),
+        MemDisk::new(alloc, Vec::new(alloc)),
+        &mut folder,
+        &mut clock,
+    );
+    ExitCode::from(status)
+}
+
+// The words that the program was started with, or none where they can't be read as text.
+fn words(rt: &(impl Env + Alloc<A = Global>)) -> Result<Vec<String>, AllocError> {
+    let mut words = Vec::new(rt.alloc());
+    if let Ok(args) = env::args(rt) {
+        for word in args {
+            words.push(word)?;
+        }
+    }
+    Ok(words)
+}
+
+// The words of the command.
+fn command(words: &[String]) -> &[String] {
+    if words.len() < BEFORE {
+        &[]
+    } else {
+        &words[BEFORE..]
+    }
+}
