@@ -3,7 +3,7 @@
 ghost use Rattle.std.specs.Prelude.{◌≡◌, ◌<◌, ◌≤◌, ◌+◌, [], length, IfOk, OnOk, OnErr};
 ghost use Rattle.std.specs.Option.{option_copied};
 ghost use Rattle.std.specs.BTreeMap.{btree_map_len, insert_entry, is_at};
-ghost use Rattle.std.specs.Map.{keys_of, lookup};
+ghost use Rattle.std.specs.Map.{keys_of, lookup, remove_entry};
 
 use crate::{ListOf, NoMemory, Text, TryCopy};
 use std::alloc::Global;
@@ -85,6 +85,14 @@ impl<K: Ord + Drop, V: Drop> MapOf<K, V> {
             return Err(NoMemory);
         }
         insert_pair(&mut self.inner, key, value)
+    }
+
+    /// Takes the pair at a key out, and gives its value. Without that key the map stays as it was.
+    pub fn remove(&mut self, key: &K) -> Option<V>
+        ensures value { result ≡ lookup (is_at (K.cmp key.now)) self.old }
+        ensures entries { self.new ≡ remove_entry (is_at (K.cmp key.now)) self.old }
+    {
+        self.inner.remove(key)
     }
 }
 

@@ -1,0 +1,4 @@
+pub mod Following
+pub mod Alternatives
+pub mod Apart
+pub mod Deciding

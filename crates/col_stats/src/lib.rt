@@ -1,0 +1,9 @@
+//! The rules of column statistics: which values a column takes, and how they are kept.
+#![tactic(auto)]
+
+mod checking;
+mod column_types;
+mod keeping;
+
+pub use checking::{StatFault, check};
+pub use keeping::{put, remove};

@@ -1,0 +1,177 @@
+//! Sources, sinks, disks, folders and clocks.
+
+use cat_types::Bytes;
+use hms_outside::{
+    Clock, Disk, Folder, MemClock, MemDisk, MemFolder, MemSink, MemSource, Outage, Sink, Source,
+    StreamSink, StreamSource, send_all,
+};
+use std::cell::Cell;
+use std::io::{self, Read, Write};
+use std::test::Fail;
+
+#[test]
+fn a_source_fails_at_its_listed_calls(rt: HostRuntime) -> Result<(), Fail> {
+    let alloc = rt.alloc();
+    let bytes = Bytes::from_slice(alloc, b"abcde")?;
+    let mut source = MemSource::new(bytes, vec![in alloc; 1, 3]?);
+    let mut buf = [0; 3];
+    assert_eq!(rt; source.read(&mut buf), Ok(3));
+    assert_eq!(rt; buf, *b"abc");
+    assert_eq!(rt; source.read(&mut buf), Err(Outage::Failed));
+    assert_eq!(rt; source.read(&mut buf), Ok(2));
+    assert_eq!(rt; source.read(&mut buf), Err(Outage::Failed));
+    assert_eq!(rt; source.read(&mut buf), Ok(0));
+    Ok(())
+}
+
+#[test]
+fn a_stopping_source_gives_so_many_bytes(rt: HostRuntime) -> Result<(), Fail> {
+    let alloc = rt.alloc();
+    for (taken, given) in [(0, 0), (2, 2), (5, 5), (9, 5)] {
+        let bytes = Bytes::from_slice(alloc, b"abcde")?;
+        let mut source = MemSource::stopping(alloc, bytes, taken);
+        let mut buf = [0; 9];
+        if given > 0 {
+            assert_eq!(rt; source.read(&mut buf), Ok(given));
+        }
+        assert_eq!(rt; source.read(&mut buf), Err(Outage::Failed));
+        assert_eq!(rt; source.read(&mut buf), Err(Outage::Failed));
+    }
+    Ok(())
+}
+
+#[test]
+fn a_sink_keeps_bytes_and_flushes(rt: HostRuntime) -> Result<(), Fail> {
+    let alloc = rt.alloc();
+    let mut sink = MemSink::new(alloc, vec![in alloc; 2]?);
+    assert_eq!(rt; send_all(&mut sink, b"ab"), Ok(()));
+    assert_eq!(rt; sink.write(b"c"), Err(Outage::Failed));
+    assert_eq!(rt; sink.write(b"c"), Ok(1));
+    assert_eq!(rt; sink.flush(), Ok(()));
+    assert_eq!(rt; sink.bytes(), b"abc".as_slice());
+    assert_eq!(rt; sink.flushes(), [2, 3].as_slice());
+    Ok(())
+}
+
+#[test]
+fn a_disk_keeps_what_was_written(rt: HostRuntime) -> Result<(), Fail> {
+    let alloc = rt.alloc();
+    let mut disk = MemDisk::new(alloc, vec![in alloc; 3, 6]?);
+    assert_eq!(rt; disk.write_at(0, b"abcd"), Ok(()));
+    assert_eq!(rt; disk.write_at(2, b"XYZ"), Ok(()));
+    assert_eq!(rt; disk.write_at(1, b"-"), Ok(()));
+    assert_eq!(rt; disk.write_at(0, b"!"), Err(Outage::Failed));
+    assert_eq!(rt; disk.len(), Ok(5));
+    assert_eq!(rt; disk.sync(), Ok(()));
+    assert_eq!(rt; disk.sync(), Err(Outage::Failed));
+    let mut buf = [0; 8];
+    assert_eq!(rt; disk.read_at(1, &mut buf), Ok(4));
+    assert!(rt; buf.starts_with(b"-XYZ"));
+    assert_eq!(rt; disk.read_at(9, &mut buf), Ok(0));
+    Ok(())
+}
+
+#[test]
+fn a_folder_keeps_its_files(rt: HostRuntime) -> Result<(), Fail> {
+    let alloc = rt.alloc();
+    let mut folder = MemFolder::new(alloc, vec![in alloc; 2, 4]?);
+    assert_eq!(rt; folder.put("d/a", b"1"), Ok(()));
+    assert_eq!(rt; folder.put("d/a", b"22"), Ok(()));
+    assert_eq!(rt; folder.put("d/a", b"3"), Err(Outage::Failed));
+    let Ok(Some(file)) = folder.get("d/a") else {
+        return Err(Fail::from("no file"));
+    };
+    assert_eq!(rt; file.as_slice(), b"22".as_slice());
+    assert!(rt; matches!(folder.get("d/a"), Err(Outage::Failed)));
+    assert!(rt; matches!(folder.get("d/b"), Ok(None)));
+    Ok(())
+}
+
+#[test]
+fn a_clock_repeats_its_last_moment(rt: HostRuntime) -> Result<(), Fail> {
+    let alloc = rt.alloc();
+    let mut clock = MemClock::new(vec![in alloc; 5, 7]?);
+    assert_eq!(rt; [clock.now(), clock.now(), clock.now()], [5, 7, 7]);
+    let mut none = MemClock::new(Vec::new(alloc));
+    assert_eq!(rt; none.now(), 0);
+    Ok(())
+}
+
+// A reader of a few bytes that counts its calls; the calls after the bytes fail.
+#[derive(Drop)]
+struct Few<'a> {
+    given: &'a Cell<u32>,
+}
+
+impl Read for Few<'_> {
+    fn read(&mut self, buf: &mut [u8]) -> io::Result<usize> {
+        let calls = self.given.get();
+        self.given.set(calls.saturating_add(1));
+        if calls > 0 || buf.len() < 2 {
+            return Err(io::Error::from(io::ErrorKind::BrokenPipe));
+        }
+        buf[0] = b'o';
+        buf[1] = b'k';
+        Ok(2)
+    }
+}
+
+#[test]
+fn a_stream_source_reads_ahead(rt: HostRuntime) -> Result<(), Fail> {
+    let calls = Cell::new(0);
+    let mut source = StreamSource::new(rt.alloc(), Few { given: &calls });
+    let mut buf = [0; 1];
+    assert_eq!(rt; source.read(&mut buf), Ok(1));
+    assert_eq!(rt; buf, *b"o");
+    assert_eq!(rt; source.read(&mut buf), Ok(1));
+    assert_eq!(rt; buf, *b"k");
+    assert_eq!(rt; calls.get(), 1);
+    assert_eq!(rt; source.read(&mut buf), Err(Outage::Failed));
+    Ok(())
+}
+
+// A writer that counts its calls and bytes; the third call fails.
+#[derive(Drop)]
+struct Tally<'a> {
+    calls: &'a Cell<u32>,
+    bytes: &'a Cell<usize>,
+}
+
+impl Write for Tally<'_> {
+    fn write(&mut self, buf: &[u8]) -> io::Result<usize> {
+        let calls = self.calls.get().saturating_add(1);
+        self.calls.set(calls);
+        if calls > 2 {
+            return Err(io::Error::from(io::ErrorKind::BrokenPipe));
+        }
+        self.bytes.set(self.bytes.get().saturating_add(buf.len()));
+        Ok(buf.len())
+    }
+
+    fn flush(&mut self) -> io::Result<()> {
+        Ok(())
+    }
+}
+
+#[test]
+fn a_flush_reaches_the_stream(rt: HostRuntime) -> Result<(), Fail> {
+    let calls = Cell::new(0);
+    let bytes = Cell::new(0);
+    let writer = Tally {
+        calls: &calls,
+        bytes: &bytes,
+    };
+    let mut sink = StreamSink::new(rt.alloc(), writer);
+    for _ in 0..10 {
+        assert_eq!(rt; sink.write(b"abc"), Ok(3));
+    }
+    assert_eq!(rt; (calls.get(), bytes.get()), (0, 0));
+    assert_eq!(rt; sink.flush(), Ok(()));
+    assert_eq!(rt; (calls.get(), bytes.get()), (1, 30));
+    assert_eq!(rt; sink.write(b"d"), Ok(1));
+    assert_eq!(rt; sink.flush(), Ok(()));
+    assert_eq!(rt; bytes.get(), 31);
+    assert_eq!(rt; sink.write(b"e"), Ok(1));
+    assert_eq!(rt; sink.flush(), Err(Outage::Failed));
+    Ok(())
+}

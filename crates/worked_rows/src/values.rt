@@ -1,0 +1,211 @@
+//! Texts, lists, maps and records.
+
+use cat_types::{
+    Bytes, Call, Column, Columns, DbRec, ListOf, MapOf, NoMemory, Order, Orders, Params, PartRec,
+    PlaceMap, Reply, Serde, Skew, StatRec, StatValue, Stats, Storage, TEXT_LIMIT, TableRec, Text,
+    TextFault, Texts, TryCopy,
+};
+use catalogue::{Bars, Cat, Decided, decide};
+use std::alloc::Global;
+use std::test::Fail;
+
+fn text(alloc: Global, s: &str) -> Result<Text, Fail> {
+    Ok(Text::of(alloc, s)?)
+}
+
+#[test]
+fn a_text_has_its_limit(rt: HostRuntime) -> Result<(), Fail> {
+    let alloc = rt.alloc();
+    let mut most = String::from_utf8(vec![in alloc; b'a'; TEXT_LIMIT]?)
+        .ok()
+        .ok_or("no text")?;
+    let longest = Text::of(alloc, most.as_str())?;
+    assert_eq!(rt; longest.len(), TEXT_LIMIT);
+    most.push_str("a")?;
+    assert_eq!(rt;
+        Text::of(alloc, most.as_str()).err(),
+        Some(TextFault::TooLong)
+    );
+    Ok(())
+}
+
+#[test]
+fn texts_are_compared_by_bytes(rt: HostRuntime) -> Result<(), Fail> {
+    let alloc = rt.alloc();
+    let a = text(alloc, "a")?;
+    let b = Text::from_utf8(b"b".to_vec(alloc)?).ok_or("no text")?;
+    assert!(rt; Text::from_utf8(b"\xff".to_vec(alloc)?).is_none());
+    assert!(rt; a < b && a != b && a == a.copy(alloc)?);
+    assert!(rt; text(alloc, "")?.is_empty() && !a.is_empty());
+    let short = Texts::from_vec(vec![in alloc; text(alloc, "b")?]?)?;
+    let long = Texts::from_vec(vec![in alloc; text(alloc, "a")?, text(alloc, "z")?]?)?;
+    assert!(rt; long < short && long != short);
+    Ok(())
+}
+
+#[test]
+fn lists_and_maps_give_what_was_put(rt: HostRuntime) -> Result<(), Fail> {
+    let alloc = rt.alloc();
+    let mut list: Bytes = ListOf::new(alloc);
+    assert!(rt; list.is_empty());
+    list.push(7)?;
+    list.push(8)?;
+    assert_eq!(rt; list.copy(alloc)?.as_slice(), [7, 8].as_slice());
+    assert_eq!(rt; list.get(1).copied(), Some(8));
+    assert_eq!(rt; Bytes::from_slice(alloc, &[1, 2])?.into_vec().len(), 2);
+    let mut map: Params = MapOf::new(alloc);
+    map.put(text(alloc, "b")?, text(alloc, "1")?)?;
+    map.put(text(alloc, "a")?, text(alloc, "2")?)?;
+    map.put(text(alloc, "b")?, text(alloc, "3")?)?;
+    assert_eq!(rt; map.len(), 2);
+    let copy = map.copy(alloc)?;
+    let value = copy.get(&text(alloc, "b")?).ok_or("no b")?;
+    assert_eq!(rt; value.as_str(), "3");
+    assert!(rt; copy.get(&text(alloc, "c")?).is_none());
+    assert!(rt; map.remove(&text(alloc, "c")?).is_none());
+    assert!(rt; map.remove(&text(alloc, "b")?).is_some());
+    assert_eq!(rt; map.len(), 1);
+    let keys = copy.keys(alloc)?;
+    let first = keys.get(0).ok_or("no key")?;
+    assert_eq!(rt; first.as_str(), "a");
+    Ok(())
+}
+
+fn columns(alloc: Global) -> Result<Columns, Fail> {
+    let mut columns = ListOf::new(alloc);
+    columns.push(Column {
+        name: text(alloc, "n")?,
+        ty: text(alloc, "int")?,
+        comment: Some(text(alloc, "a number")?),
+    })?;
+    Ok(columns)
+}
+
+fn params(alloc: Global) -> Result<Params, Fail> {
+    let mut params = MapOf::new(alloc);
+    params.put(text(alloc, "k")?, text(alloc, "v")?)?;
+    Ok(params)
+}
+
+fn skew(alloc: Global) -> Result<Skew, Fail> {
+    let mut places: PlaceMap = MapOf::new(alloc);
+    places.put(ListOf::new(alloc), text(alloc, "place")?)?;
+    Ok(Skew {
+        cols: ListOf::new(alloc),
+        values: ListOf::new(alloc),
+        places,
+    })
+}
+
+fn storage(alloc: Global) -> Result<Storage, Fail> {
+    let mut sort_cols: Orders = ListOf::new(alloc);
+    sort_cols.push(Order {
+        col: text(alloc, "n")?,
+        dir: 1,
+    })?;
+    Ok(Storage {
+        cols: columns(alloc)?,
+        location: Some(text(alloc, "file:/t")?),
+        input: None,
+        output: None,
+        compressed: true,
+        buckets: 4,
+        serde: Some(Serde {
+            name: None,
+            lib: Some(text(alloc, "lib")?),
+            params: params(alloc)?,
+        }),
+        bucket_cols: ListOf::new(alloc),
+        sort_cols,
+        params: params(alloc)?,
+        skew: Some(skew(alloc)?),
+        sub_dirs: Some(false),
+    })
+}
+
+fn stats(alloc: Global) -> Result<Stats, Fail> {
+    let mut stats = MapOf::new(alloc);
+    let value = StatValue::Long {
+        low: None,
+        high: Some(9),
+        nulls: 0,
+        distinct: 3,
+    };
+    stats.put(text(alloc, "n")?, StatRec { analyzed: 5, value })?;
+    Ok(stats)
+}
+
+#[test]
+fn a_copy_of_a_table_has_its_parts(rt: HostRuntime) -> Result<(), Fail> {
+    let alloc = rt.alloc();
+    let table = TableRec {
+        owner: Some(text(alloc, "ana")?),
+        created: 1,
+        accessed: 2,
+        retention: 3,
+        sd: storage(alloc)?,
+        keys: columns(alloc)?,
+        params: params(alloc)?,
+        view_original: None,
+        view_expanded: None,
+        kind: Some(text(alloc, "MANAGED_TABLE")?),
+        stats: stats(alloc)?,
+    };
+    let copy = table.copy(alloc)?;
+    assert_eq!(rt; (copy.created, copy.accessed, copy.retention), (1, 2, 3));
+    assert_eq!(rt; (copy.sd.compressed, copy.sd.buckets), (true, 4));
+    assert_eq!(rt;
+        (
+            copy.sd.cols.len(),
+            copy.sd.sort_cols.len(),
+            copy.stats.len()
+        ),
+        (1, 1, 1)
+    );
+    let skew = copy.sd.skew.as_ref().ok_or("no skew")?;
+    assert_eq!(rt; skew.places.len(), 1);
+    Ok(())
+}
+
+#[test]
+fn a_copy_of_a_partition_and_a_database_has_its_parts(rt: HostRuntime) -> Result<(), Fail> {
+    let alloc = rt.alloc();
+    let part = PartRec {
+        created: 1,
+        accessed: 2,
+        sd: Some(storage(alloc)?),
+        params: params(alloc)?,
+        stats: stats(alloc)?,
+    };
+    let part = part.copy(alloc)?;
+    assert!(rt; part.sd.is_some() && part.params.len() == 1 && part.stats.len() == 1);
+    let db = DbRec {
+        description: None,
+        location: Some(text(alloc, "file:/d")?),
+        params: params(alloc)?,
+        owner: None,
+    };
+    let db = db.copy(alloc)?;
+    assert!(rt; db.location.is_some() && db.owner.is_none() && db.params.len() == 1);
+    Ok(())
+}
+
+#[test]
+fn a_new_catalogue_has_default(rt: HostRuntime) -> Result<(), Fail> {
+    let alloc = rt.alloc();
+    let cat = Cat::new(alloc)?;
+    assert_eq!(rt; cat.names(alloc)?.len(), 1);
+    let bars = Bars {
+        replicas: ListOf::new(alloc),
+        dumping: ListOf::new(alloc),
+        loading: ListOf::new(alloc),
+    };
+    let call = Call::GetAllDatabases.copy(alloc)?;
+    let Decided::Reply(reply) = decide(alloc, &cat, &bars, &call, 0, 1) else {
+        return Err(Fail::from(NoMemory));
+    };
+    let Reply::Names(names) = reply.copy(alloc)?;
+    let name = names.get(0).ok_or("no name")?;
+    assert_eq!(rt; name.as_str(), "default");
+    Ok(())
+}
