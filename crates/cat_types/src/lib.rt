@@ -1,14 +1,20 @@
-//! The types that the metastore's crates share: what calls ask and what is replied, over the values
-//! of `cat_values`, which stand here too.
+//! The types that the metastore's crates share: what is asked, done and replied, over the values of
+//! `cat_values`, which stand here too.
 #![tactic(auto)]
 
+mod arguments;
 mod calls;
+mod changes;
 mod replies;
+mod steps;
 
+pub use arguments::DbArg;
 pub use calls::Call;
 pub use cat_values::{
     Bytes, Column, Columns, CopyParts, DbRec, LIST_END, ListOf, MAP_END, MapOf, NoMemory, Order,
     Orders, Params, PartRec, PlaceMap, Serde, Skew, StatRec, StatValue, Stats, Storage, TEXT_LIMIT,
     TableRec, Text, TextFault, TextLists, Texts, TryCopy,
 };
+pub use changes::{Change, Event, EventKind, Op, Ops};
 pub use replies::Reply;
+pub use steps::{Answer, Step};

@@ -1,20 +1,29 @@
 //! What the catalogue replies.
 
-use cat_values::{NoMemory, Texts, TryCopy};
+use cat_values::{NoMemory, Text, Texts, TryCopy};
 use std::alloc::Global;
 
-/// The result of a call.
+/// The result of a call, or its refusal.
 #[derive(Drop)]
 pub enum Reply {
+    /// The call was done, and has no result.
+    Nothing,
     /// Names, in byte order.
     Names(Texts),
+    /// The call was refused: the number of the refusal, and its text.
+    Refused(u8, Text),
 }
 
 impl TryCopy for Reply {
     fn copy(&self, alloc: Global) -> Result<Reply, NoMemory> {
         match self {
+            Reply::Nothing => Ok(Reply::Nothing),
             Reply::Names(names) => match names.copy(alloc) {
                 Ok(names) => Ok(Reply::Names(names)),
+                Err(NoMemory) => Err(NoMemory),
+            },
+            Reply::Refused(number, text) => match text.copy(alloc) {
+                Ok(text) => Ok(Reply::Refused(*number, text)),
                 Err(NoMemory) => Err(NoMemory),
             },
         }

@@ -1,2 +1,3 @@
 pub mod Catalogue
-pub mod Results
+pub mod Rules
+pub mod Changes

@@ -1,8 +1,8 @@
 //! The catalogue's databases.
 
-ghost use Rattle.std.specs.Prelude.{◌≡◌, IfOk};
+ghost use Rattle.std.specs.Prelude.{◌≡◌, IfOk, length};
 ghost use Rattle.std.specs.Map.{keys_of};
-ghost use Rattle.catalogue.specs.Catalogue.{new_catalogue};
+ghost use Rattle.catalogue.specs.Catalogue.{has_database, new_catalogue};
 
 use cat_types::{DbRec, MapOf, NoMemory, Text, Texts};
 use std::alloc::Global;
@@ -11,7 +11,8 @@ use std::marker::Model;
 /// The databases by name, each with its born: the number of the event that made it.
 #[derive(Drop)]
 pub struct Cat {
-    databases: MapOf<Text, (u64, DbRec)>,
+    pub(crate) databases: MapOf<Text, (u64, DbRec)>,
+    pub(crate) alloc: Global,
 }
 
 impl Model for Cat {
@@ -38,7 +39,7 @@ impl Cat {
             owner: None,
         };
         databases.put(name, (0, record))?;
-        Ok(Cat { databases })
+        Ok(Cat { databases, alloc })
     }
 
     /// The names of all databases, in byte order.
@@ -46,5 +47,19 @@ impl Cat {
         ensures { IfOk result (λ names. names ≡ keys_of self.now.databases) }
     {
         self.databases.keys(alloc)
+    }
+
+    /// Whether there is a database with this name, which is in lower case.
+    pub fn has_database(&self, name: &Text) -> bool
+        ensures { result ≡ has_database self.now name.now }
+    {
+        self.databases.get(name).is_some()
+    }
+
+    /// How many databases there are.
+    pub fn db_count(&self) -> u64
+        ensures { result ≡ length self.now.databases }
+    {
+        self.databases.len() as u64
     }
 }

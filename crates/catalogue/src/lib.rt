@@ -1,12 +1,14 @@
-//! The catalogue, and what each call results in.
+//! The catalogue: what each call is refused for, changes and results in, and how a change is done.
 #![tactic(auto)]
 
 mod bars;
 mod cat;
 mod decided;
 mod decision;
+mod placing;
 
 pub use bars::{Bars, ReplicaAt, ReplicaAts};
 pub use cat::Cat;
 pub use decided::Decided;
-pub use decision::decide;
+pub use decision::{DATABASE_LIMIT, LAST_EVENT, decide};
+pub use placing::Placed;

@@ -1,0 +1,2 @@
+pub mod TakingBack
+pub mod Deciding

@@ -1,0 +1,49 @@
+-- How a legal history goes on.
+use Rattle.std.proofs.Common.{◌≡◌, ℕ, List, [], ◌∷◌, ◌++◌, map, refl, sym, ◌∙◌, ap, subst, arith}
+use Rattle.desk.specs.State.{State, Due, Takes, due}
+use Rattle.desk.specs.History.{Moment, took, Place, place_of, next, place_after, IsLegal, MayFollow, Entry, run_of, start_of, IsRun}
+use Rattle.desk.specs.declared.entries.Asked.{Asked}
+use Rattle.cat_types.specs.declared.steps.Answer.{Answer}
+use Rattle.cat_types.specs.declared.steps.Answer.TheVariants.{Reply, NoMemory, StoreFault}
+
+pub place_after-append : (p : Place) (xs ys : List Moment) → place_after p (xs ++ ys) ≡ place_after (place_after p xs) ys
+place_after-append p [] ys = refl
+place_after-append p (x ∷ xs) ys = place_after-append (next p x) xs ys
+
+pub IsLegal-append : (p : Place) (xs ys : List Moment) → IsLegal p xs → IsLegal (place_after p xs) ys → IsLegal p (xs ++ ys)
+IsLegal-append p [] ys l r = r
+IsLegal-append p (x ∷ xs) ys l r = (l.0, IsLegal-append (next p x) xs ys l.1 r)
+
+took-append : (es fs : List Entry) → map took (es ++ fs) ≡ map took es ++ map took fs
+took-append [] fs = refl
+took-append (e ∷ es) fs = ap (λ (l : List Moment). took e ∷ l) (took-append es fs)
+
+-- one entry more
+run_on : (old new : State) (id : List ℕ) (base : ℕ) (es : List Entry) (e : Entry)
+    → (h : IsRun (run_of old id base es))
+    → MayFollow (place_after (place_of (start_of (run_of old id base es))) (map took es)) (took e)
+    → (next (place_after (place_of (start_of (run_of old id base es))) (map took es)) (took e)).state ≡ new
+    → e.1.fault ≡ 0
+    → IsRun (run_of new id base (es ++ e ∷ []))
+run_on old new id base es e h may is none =
+    let p : Place = place_of (start_of (run_of old id base es)) in
+    let whole = place_after-append p (map took es) (took e ∷ []) in
+    let all = took-append es (e ∷ []) in
+    record {
+      legal = subst (IsLegal p) (sym all) (IsLegal-append p (map took es) (took e ∷ []) h.legal (may, tt));
+      state = ap (λ (l : List Moment). (place_after p l).state) all ∙ ap (λ (q : Place). q.state) whole ∙ is;
+      fault = ap (λ (l : List Moment). (place_after p l).fault) all ∙ ap (λ (q : Place). q.fault) whole ∙ none;
+    }
+
+-- what a step of the store does, its history does
+pub takes_on : (old new : State) (id : List ℕ) (base : ℕ) (es : List Entry) (asked : Asked) (answer : Answer) → Takes old asked.caller asked.step answer new → IsRun (run_of old id base es)
+    → IsRun (run_of new id base (es ++ (asked, record { answer = answer; fault = 0 }) ∷ []))
+takes_on old new id base es asked NoMemory takes h = run_on old new id base es (asked, record { answer = NoMemory; fault = 0 }) h (omega (arith, h.fault), tt) (h.state ∙ sym takes) refl
+takes_on old new id base es asked StoreFault takes h = absurd takes
+takes_on old new id base es asked (Reply r) takes h =
+    run_on old new id base es (asked, record { answer = Reply r; fault = 0 }) h (omega (arith, h.fault), takes.0 ∙ ap (λ (x : State). (due x asked.caller asked.step).answer) (sym h.state)) (ap (λ (x : State). (due x asked.caller asked.step).state) h.state ∙ sym takes.1) refl
+
+-- the same by the log's clause
+pub logged : (old new : State) (id : List ℕ) (base : ℕ) (es fs : List Entry) (asked : Asked) (answer : Answer) → Takes old asked.caller asked.step answer new → IsRun (run_of old id base es)
+    → fs ≡ es ++ (asked, record { answer = answer; fault = 0 }) ∷ [] → IsRun (run_of new id base fs)
+logged old new id base es fs asked answer takes h is = subst (λ (l : List Entry). IsRun (run_of new id base l)) (sym is) (takes_on old new id base es asked answer takes h)

@@ -1,0 +1,4 @@
+pub mod State
+pub mod History
+pub mod Entries
+pub mod Scripts

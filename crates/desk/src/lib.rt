@@ -1,0 +1,20 @@
+//! Stores by their histories: what one thread would answer to each step, and desks, from which a
+//! caller takes steps while others take theirs.
+#![tactic(auto)]
+
+mod core_trait;
+mod desk_trait;
+mod entries;
+mod foreign;
+mod local;
+mod mem_core;
+mod mem_store;
+mod script;
+
+pub use core_trait::Core;
+pub use desk_trait::Desk;
+pub use entries::{Asked, Told};
+pub use foreign::Foreign;
+pub use local::LocalDesk;
+pub use mem_core::MemCore;
+pub use script::{Script, ScriptDesk};

@@ -1,0 +1,103 @@
+//! What a store in memory keeps.
+
+ghost use Rattle.std.specs.Prelude.{◌≡◌, ◌≤◌, ◌<◌, IfOk, OnErr, OnOk};
+ghost use Rattle.cat_types.specs.declared.steps.Step.TheVariants.{Client};
+ghost use Rattle.catalogue.specs.Changes.{Creates};
+ghost use Rattle.catalogue.specs.declared.decision.TheConstants.{LAST_EVENT};
+ghost use Rattle.desk.specs.State.{Takes, changed, start};
+
+use cat_types::{Answer, Call, Change, Event, ListOf, NoMemory, Step};
+use catalogue::{Bars, Cat, Decided, LAST_EVENT, decide};
+use std::alloc::Global;
+use std::marker::Model;
+
+/// A store's state in memory.
+#[derive(Drop)]
+pub struct MemStore {
+    alloc: Global,
+    id: [u8; 16],
+    cat: Cat,
+    events: Vec<Event>,
+    first: u64,
+    newest: u64,
+    last_dump: u64,
+}
+
+impl Model for MemStore {
+    ghost use Rattle.std.specs.Prelude.{◌≤◌};
+    ghost use Rattle.desk.specs.State.{State};
+
+    ghost Value = { State };
+
+    ghost view = { λ m. record { id = m.id; catalogue = m.cat; events = m.events.items; first = m.first; newest = m.newest; last_dump = m.last_dump } };
+
+    ghost invariant = { λ m. m.newest ≤ 9223372036854775807 };
+}
+
+impl MemStore {
+    /// A new store, whose events are numbered from base + 1.
+    pub fn new(alloc: Global, id: [u8; 16], base: u64) -> Result<MemStore, NoMemory>
+        requires { base ≤ LAST_EVENT }
+        ensures { IfOk result (λ store. store ≡ start id base) }
+    {
+        Ok(MemStore {
+            alloc,
+            id,
+            cat: Cat::new(alloc)?,
+            events: Vec::new(alloc),
+            first: base + 1,
+            newest: base,
+            last_dump: 0,
+        })
+    }
+
+    /// Takes a step, whoever asks.
+    pub fn take(&mut self, caller: u32, step: &Step) -> Answer
+        ensures { Takes self.old caller step.now result self.new }
+    {
+        match step {
+            Step::Client { call, moment } => self.take_call(caller, call, *moment),
+        }
+    }
+
+    // Takes a call of the catalogue.
+    fn take_call(&mut self, _caller: u32, call: &Call, moment: u64) -> Answer
+        ensures { Takes self.old _caller (Client call.now moment) result self.new }
+    {
+        let bars = Bars {
+            replicas: ListOf::new(self.alloc),
+            dumping: ListOf::new(self.alloc),
+            loading: ListOf::new(self.alloc),
+        };
+        match decide(self.alloc, &self.cat, &bars, call, moment, self.newest + 1) {
+            Decided::Reply(reply) => Answer::Reply(reply),
+            Decided::Change(change, reply) => match self.accept(change, moment) {
+                Ok(()) => Answer::Reply(reply),
+                Err(NoMemory) => Answer::NoMemory,
+            },
+            Decided::NoMemory => Answer::NoMemory,
+        }
+    }
+
+    // Does a change, and keeps its event.
+    fn accept(&mut self, change: Change, moment: u64) -> Result<(), NoMemory>
+        requires creates { Creates change self.old.catalogue }
+        requires room { self.old.newest < LAST_EVENT }
+        ensures ok { OnOk result (self.new ≡ changed self.old moment change) }
+        ensures err { OnErr result (self.new ≡ self.old) }
+    {
+        let placed = self.cat.place(&change)?;
+        let id = self.newest + 1;
+        match self.events.push(Event { id, moment, change }) {
+            Ok(()) => {
+                self.cat.settle(placed);
+                self.newest = id;
+                Ok(())
+            }
+            Err(_) => {
+                self.cat.take_back(placed);
+                Err(NoMemory)
+            }
+        }
+    }
+}

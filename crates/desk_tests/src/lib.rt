@@ -1,0 +1,5 @@
+//! Tests of stores and desks.
+#![tactic(auto)]
+
+#[cfg(test)]
+mod tests;
