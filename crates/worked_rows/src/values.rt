@@ -87,38 +87,28 @@ fn params(alloc: Global) -> Result<Params, Fail> {
     Ok(params)
 }
 
-fn skew(alloc: Global) -> Result<Skew, Fail> {
-    let mut places: PlaceMap = MapOf::new(alloc);
-    places.put(ListOf::new(alloc), text(alloc, "place")?)?;
-    Ok(Skew {
-        cols: ListOf::new(alloc),
-        values: ListOf::new(alloc),
-        places,
-    })
+fn orders(alloc: Global) -> Result<Orders, Fail> {
+    let mut orders: Orders = ListOf::new(alloc);
+    let col = text(alloc, "n")?;
+    orders.push(Order { col, dir: 1 })?;
+    Ok(orders)
 }
 
 fn storage(alloc: Global) -> Result<Storage, Fail> {
-    let mut sort_cols: Orders = ListOf::new(alloc);
-    sort_cols.push(Order {
-        col: text(alloc, "n")?,
-        dir: 1,
-    })?;
+    let cols = columns(alloc)?;
+    let sort_cols = orders(alloc)?;
     Ok(Storage {
-        cols: columns(alloc)?,
-        location: Some(text(alloc, "file:/t")?),
+        cols,
+        location: None,
         input: None,
         output: None,
         compressed: true,
         buckets: 4,
-        serde: Some(Serde {
-            name: None,
-            lib: Some(text(alloc, "lib")?),
-            params: params(alloc)?,
-        }),
+        serde: None,
         bucket_cols: ListOf::new(alloc),
         sort_cols,
-        params: params(alloc)?,
-        skew: Some(skew(alloc)?),
+        params: MapOf::new(alloc),
+        skew: None,
         sub_dirs: Some(false),
     })
 }
@@ -135,23 +125,28 @@ fn stats(alloc: Global) -> Result<Stats, Fail> {
     Ok(stats)
 }
 
-#[test]
-fn a_copy_of_a_table_has_its_parts(rt: HostRuntime) -> Result<(), Fail> {
-    let alloc = rt.alloc();
-    let table = TableRec {
-        owner: Some(text(alloc, "ana")?),
+fn table(alloc: Global) -> Result<TableRec, Fail> {
+    let sd = storage(alloc)?;
+    let stats = stats(alloc)?;
+    Ok(TableRec {
+        owner: None,
         created: 1,
         accessed: 2,
         retention: 3,
-        sd: storage(alloc)?,
-        keys: columns(alloc)?,
-        params: params(alloc)?,
+        sd,
+        keys: ListOf::new(alloc),
+        params: MapOf::new(alloc),
         view_original: None,
         view_expanded: None,
-        kind: Some(text(alloc, "MANAGED_TABLE")?),
-        stats: stats(alloc)?,
-    };
-    let copy = table.copy(alloc)?;
+        kind: None,
+        stats,
+    })
+}
+
+#[test]
+fn a_copy_of_a_table_has_its_parts(rt: HostRuntime) -> Result<(), Fail> {
+    let alloc = rt.alloc();
+    let copy = table(alloc)?.copy(alloc)?;
     assert_eq!(rt; (copy.created, copy.accessed, copy.retention), (1, 2, 3));
     assert_eq!(rt; (copy.sd.compressed, copy.sd.buckets), (true, 4));
     assert_eq!(rt;
@@ -162,31 +157,55 @@ fn a_copy_of_a_table_has_its_parts(rt: HostRuntime) -> Result<(), Fail> {
         ),
         (1, 1, 1)
     );
-    let skew = copy.sd.skew.as_ref().ok_or("no skew")?;
-    assert_eq!(rt; skew.places.len(), 1);
     Ok(())
 }
 
 #[test]
-fn a_copy_of_a_partition_and_a_database_has_its_parts(rt: HostRuntime) -> Result<(), Fail> {
+fn a_copy_of_a_skew_and_a_serde_has_its_parts(rt: HostRuntime) -> Result<(), Fail> {
+    let alloc = rt.alloc();
+    let mut places: PlaceMap = MapOf::new(alloc);
+    places.put(ListOf::new(alloc), text(alloc, "place")?)?;
+    let skew = Skew {
+        cols: ListOf::new(alloc),
+        values: ListOf::new(alloc),
+        places,
+    };
+    assert_eq!(rt; skew.copy(alloc)?.places.len(), 1);
+    let serde = Serde {
+        name: None,
+        lib: None,
+        params: params(alloc)?,
+    };
+    assert_eq!(rt; serde.copy(alloc)?.params.len(), 1);
+    Ok(())
+}
+
+#[test]
+fn a_copy_of_a_partition_has_its_parts(rt: HostRuntime) -> Result<(), Fail> {
     let alloc = rt.alloc();
     let part = PartRec {
         created: 1,
         accessed: 2,
-        sd: Some(storage(alloc)?),
+        sd: None,
         params: params(alloc)?,
-        stats: stats(alloc)?,
+        stats: MapOf::new(alloc),
     };
-    let part = part.copy(alloc)?;
-    assert!(rt; part.sd.is_some() && part.params.len() == 1 && part.stats.len() == 1);
+    let copy = part.copy(alloc)?;
+    assert!(rt; copy.sd.is_none() && copy.params.len() == 1);
+    Ok(())
+}
+
+#[test]
+fn a_copy_of_a_database_has_its_parts(rt: HostRuntime) -> Result<(), Fail> {
+    let alloc = rt.alloc();
     let db = DbRec {
         description: None,
-        location: Some(text(alloc, "file:/d")?),
+        location: None,
         params: params(alloc)?,
         owner: None,
     };
-    let db = db.copy(alloc)?;
-    assert!(rt; db.location.is_some() && db.owner.is_none() && db.params.len() == 1);
+    let copy = db.copy(alloc)?;
+    assert!(rt; copy.owner.is_none() && copy.params.len() == 1);
     Ok(())
 }
 

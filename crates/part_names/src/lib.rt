@@ -1,0 +1,32 @@
+//! The names of partitions: `key=value` for each key of the table, joined by `/`.
+//!
+//! The characters that are escaped in values, as `%` and two hexadecimal digits, and the value that
+//! stands for an empty one are those of Apache Hive (`FileUtils.makePartName`). Which names can't be
+//! read, that a component is cut at its first `=`, and that keys are lower-cased are this project's
+//! own rules.
+#![tactic(auto)]
+
+mod escapes;
+mod fault;
+mod laws;
+mod making;
+mod reading;
+mod values;
+
+pub use fault::NameFault;
+pub use laws::{names_differ, names_read_back};
+pub use making::make_name;
+pub use reading::{keys_of, spec_of, vals_of};
+pub use values::valid_value;
+
+/// The value that stands for an empty one.
+pub const DEFAULT_VALUE: &str = "__HIVE_DEFAULT_PARTITION__";
+
+/// How many keys a name has at most.
+pub const KEYS_LIMIT: usize = 16;
+
+/// How many bytes a key has at most.
+pub const NAME_LIMIT: usize = 128;
+
+/// How many bytes a value has at most.
+pub const VALUE_LIMIT: usize = 4_000;

@@ -1,0 +1,48 @@
+//! Names made of keys and values.
+
+ghost use Rattle.std.specs.Prelude.{◌≡◌, ◌≤◌, length, All, IfOk, OnOk, string_bytes};
+ghost use Rattle.part_names.specs.Making.{IsObjectName, IsValidValue, component, grown, part_name};
+ghost use Rattle.part_names.specs.declared.TheConstants.{KEYS_LIMIT};
+
+use crate::escapes::{push_escaped, text_of};
+use crate::values::stored_text;
+use cat_values::{NoMemory, Text, Texts};
+use std::alloc::Global;
+
+/// The name of the partition with these values of these keys, in their order. An empty value is
+/// written as `DEFAULT_VALUE`; keys stand as they are.
+pub fn make_name(alloc: Global, keys: &Texts, values: &Texts) -> Result<Text, NoMemory>
+    requires as_many { length keys.now ≡ length values.now }
+    requires few { length keys.now ≤ KEYS_LIMIT }
+    requires object_names { All IsObjectName keys.now }
+    requires valid { All IsValidValue values.now }
+    ensures { IfOk result (λ name. name ≡ part_name keys.now values.now) }
+{
+    let mut name = String::with_capacity(alloc, plain_len(keys, values))?;
+    for (key, value) in keys.as_slice().iter().zip(values.as_slice()) {
+        push_component(&mut name, key, value)?;
+    }
+    Ok(text_of(name))
+}
+
+// Room for a name without escapes.
+fn plain_len(keys: &Texts, values: &Texts) -> usize {
+    let mut len: usize = 0;
+    for (key, value) in keys.as_slice().iter().zip(values.as_slice()) {
+        len = len.saturating_add(key.len() + 2 + stored_text(value).len());
+    }
+    len
+}
+
+// Adds a component to a name, behind a slash if it isn't the first.
+fn push_component(name: &mut String, key: &Text, value: &Text) -> Result<(), NoMemory>
+    ensures { OnOk result (string_bytes name.new
+        ≡ grown (string_bytes name.old) (component key.now value.now)) }
+{
+    if !name.is_empty() {
+        name.push('/')?;
+    }
+    name.push_str(key.as_str())?;
+    name.push('=')?;
+    push_escaped(name, stored_text(value))
+}

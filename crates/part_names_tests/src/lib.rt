@@ -1,0 +1,5 @@
+//! Tests of the names of partitions.
+#![tactic(auto)]
+
+#[cfg(test)]
+mod tests;
