@@ -108,3 +108,72 @@ fn others_create_between(rt: HostRuntime) -> Result<(), Fail> {
     }
     Ok(())
 }
+
+// The rules of creating a database again, as plainly as can be: names in a list, and a counter.
+#[derive(Drop)]
+struct Plain {
+    names: Vec<String>,
+    newest: u64,
+}
+
+impl Plain {
+    // The number of the refusal that is due to a create, or 0 where it is accepted.
+    fn create(&mut self, alloc: Global, name: &str) -> Result<u8, Fail> {
+        let mut name = String::from_str(alloc, name)?;
+        name.make_ascii_lowercase();
+        let lawful = name
+            .as_str()
+            .as_bytes()
+            .iter()
+            .all(|byte| byte.is_ascii_alphanumeric() || *byte == b'_');
+        if name.is_empty() || name.len() > 128 || !lawful {
+            return Ok(3);
+        }
+        if self.has(&name) {
+            return Ok(1);
+        }
+        if self.newest == u64::MAX / 2 {
+            return Ok(12);
+        }
+        self.newest = self.newest.saturating_add(1);
+        self.names.push(name)?;
+        Ok(0)
+    }
+
+    fn has(&self, name: &String) -> bool {
+        self.names
+            .iter()
+            .any(|known| known.as_str() == name.as_str())
+    }
+
+    // The names in byte order, joined by commas.
+    fn list(&mut self, alloc: Global) -> Result<String, Fail> {
+        self.names.sort()?;
+        let mut all = String::new(alloc);
+        for name in &self.names {
+            all.push_str(name.as_str())?;
+            all.push_str(",")?;
+        }
+        Ok(all)
+    }
+}
+
+#[test]
+fn a_store_answers_as_the_plain_rules_do(rt: HostRuntime) -> Result<(), Fail> {
+    let alloc = rt.alloc();
+    let base = u64::MAX / 2 - 4;
+    let mut core = MemCore::new(alloc, ID, base)?;
+    let default = String::from_str(alloc, "default")?;
+    let mut plain = Plain {
+        names: vec![in alloc; default]?,
+        newest: base,
+    };
+    let asked = "b\nB\na b\n\n_9\nzz\nz-z\nDefault\na\nlast\nmore\nb";
+    for name in asked.split('\n') {
+        let due = plain.create(alloc, name)?;
+        assert_eq!(rt; refusal(core.turn(3, create(alloc, name)?)), due, "{name}");
+        let listed = joined(alloc, core.turn(0, list()))?;
+        assert_eq!(rt; listed.as_str(), plain.list(alloc)?.as_str(), "{name}");
+    }
+    Ok(())
+}
