@@ -5,6 +5,7 @@ use hms_outside::{MemClock, MemDisk, MemFolder, StreamSink, StreamSource};
 use ms_cli::{LocalEnd, run_local};
 use std::alloc::{AllocError, Global};
 use std::env;
+use std::io::ErrorKind;
 use std::process::ExitCode;
 use std::rt::Env;
 
@@ -42,12 +43,20 @@ fn main(rt: HostRuntime) -> ExitCode {
 // The words that the program was started with, or none where they can't be read as text.
 fn words(rt: &(impl Env + Alloc<A = Global>)) -> Result<Vec<String>, AllocError> {
     let mut words = Vec::new(rt.alloc());
-    if let Ok(args) = env::args(rt) {
-        for word in args {
-            words.push(word)?;
+    match env::args(rt) {
+        Ok(args) => {
+            for word in args {
+                words.push(word)?;
+            }
+            Ok(words)
+        }
+        Err(error) => {
+            if error.kind() == ErrorKind::OutOfMemory {
+                return Err(AllocError);
+            }
+            Ok(words)
         }
     }
-    Ok(words)
 }
 
 // The words of the command.
