@@ -17,7 +17,7 @@ pub struct StreamSource<R: Read + Drop> {
 }
 
 impl<R: Read + Drop> StreamSource<R> {
-    /// Where there is no memory for its buffer, the source fails at each call.
+    /// Where there is no memory for its buffer, each call answers want of memory.
     pub fn new(alloc: Global, inner: R) -> StreamSource<R> {
         StreamSource {
             inner: BufReader::with_capacity(alloc, BUFFER, inner).ok(),
@@ -32,9 +32,10 @@ impl<R: Read + Drop> Source for StreamSource<R> {
     ghost faults = { λ s. s.faults };
 
     fn read(&mut self, buf: &mut [u8]) -> Result<usize, Outage> {
-        if let Some(inner) = &mut self.inner
-            && let Ok(count) = inner.read(buf)
-        {
+        let Some(inner) = &mut self.inner else {
+            return Err(Outage::NoMemory);
+        };
+        if let Ok(count) = inner.read(buf) {
             return Ok(count);
         }
         self.faults = self.faults.saturating_add(1);
@@ -50,7 +51,7 @@ pub struct StreamSink<W: Write + Drop> {
 }
 
 impl<W: Write + Drop> StreamSink<W> {
-    /// Where there is no memory for its buffer, the sink fails at each call.
+    /// Where there is no memory for its buffer, each call answers want of memory.
     pub fn new(alloc: Global, inner: W) -> StreamSink<W> {
         StreamSink {
             inner: BufWriter::with_capacity(alloc, BUFFER, inner).ok(),
@@ -65,8 +66,10 @@ impl<W: Write + Drop> Sink for StreamSink<W> {
     ghost faults = { λ s. s.faults };
 
     fn write(&mut self, bytes: &[u8]) -> Result<usize, Outage> {
-        if let Some(inner) = &mut self.inner
-            && let Ok(count) = inner.write(bytes)
+        let Some(inner) = &mut self.inner else {
+            return Err(Outage::NoMemory);
+        };
+        if let Ok(count) = inner.write(bytes)
             && count > 0
         {
             return Ok(count);
@@ -76,9 +79,10 @@ impl<W: Write + Drop> Sink for StreamSink<W> {
     }
 
     fn flush(&mut self) -> Result<(), Outage> {
-        if let Some(inner) = &mut self.inner
-            && let Ok(()) = inner.flush()
-        {
+        let Some(inner) = &mut self.inner else {
+            return Err(Outage::NoMemory);
+        };
+        if let Ok(()) = inner.flush() {
             return Ok(());
         }
         self.faults = self.faults.saturating_add(1);

@@ -1,11 +1,5 @@
-//! Worked rows and other examples of the metastore's crates, as tests.
+//! Worked rows of the metastore's top calls, as tests.
 #![tactic(auto)]
 
 #[cfg(test)]
-mod outside;
-#[cfg(test)]
 mod pipe;
-#[cfg(test)]
-mod values;
-#[cfg(test)]
-mod wire;

@@ -1,6 +1,6 @@
 //! Sources, sinks, disks, folders and clocks.
 
-use cat_types::Bytes;
+use cat_values::Bytes;
 use hms_outside::{
     Clock, Disk, Folder, MemClock, MemDisk, MemFolder, MemSink, MemSource, Outage, Sink, Source,
     StreamSink, StreamSource, send_all,

@@ -1,6 +1,6 @@
 //! The wire: what a reader takes, and what a writer gathers.
 
-use cat_types::{Bytes, Text};
+use cat_values::{Bytes, Text};
 use hms_outside::{MemSink, MemSource};
 use std::alloc::Global;
 use std::test::Fail;
