@@ -1,5 +1,5 @@
 -- Which calls are refused, what the others change, and what they result in.
-use Rattle.std.specs.Prelude.{◌≡◌, ◌==◌, ℕ, ◌≤◌, nat_lt, nat_le, Bool, true, false, not, List, [], ◌∷◌, length, Option, None, Some, codes, if◌then◌else◌}
+use Rattle.std.specs.Prelude.{◌≡◌, ◌==◌, ℕ, ◌≤◌, nat_lt, nat_le, Bool, false, not, List, [], ◌∷◌, length, Option, None, Some, codes, if◌then◌else◌}
 use Rattle.std.specs.Map.{keys_of, remove_entry}
 use Rattle.std.specs.Str.{str_to_ascii_lowercase}
 use Rattle.cat_rules.specs.Names.{is_object_name}

@@ -1,6 +1,6 @@
 -- How a legal history goes on.
 use Rattle.std.proofs.Common.{◌≡◌, ℕ, List, [], ◌∷◌, ◌++◌, map, refl, sym, ◌∙◌, ap, subst, arith}
-use Rattle.desk.specs.State.{State, Due, Takes, due}
+use Rattle.desk.specs.State.{State, Takes, due}
 use Rattle.desk.specs.History.{Moment, took, Place, place_of, next, place_after, IsLegal, MayFollow, Entry, run_of, start_of, IsRun}
 use Rattle.desk.specs.declared.entries.Asked.{Asked}
 use Rattle.cat_types.specs.declared.steps.Answer.{Answer}

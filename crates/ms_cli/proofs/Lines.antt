@@ -1,5 +1,5 @@
 -- Lines that are told.
-use Rattle.std.proofs.Common.{◌≡◌, ℕ, List, [], ◌++◌, string_bytes, Option, Some, None, Result, Ok, Err, IfOk, OnErr, String, Global, sym, ap, ◌∙◌, subst, inl, inr}
+use Rattle.std.proofs.Common.{◌≡◌, ℕ, List, [], string_bytes, Option, Some, None, Result, Ok, Err, IfOk, OnErr, String, Global, sym, ap, ◌∙◌, subst, inr}
 use Rattle.std.specs.declared.alloc.AllocError.{AllocError}
 use Rattle.std.proofs.lemmas.List.{append-nil}
 use Rattle.hms_outside.specs.Told.{Goes, Grew, Held, Same}

@@ -1,5 +1,5 @@
 -- One turn of a session behind another.
-use Rattle.std.proofs.Common.{◌≡◌, ◌≢◌, ℕ, ◌+◌, ◌<◌, ◌≤◌, List, [], ◌∷◌, ◌++◌, length, map, take, Option, Some, None, Result, Err, refl, sym, ap, ◌∙◌, subst, append_assoc, arith, length-append, inl, inr}
+use Rattle.std.proofs.Common.{◌≡◌, ℕ, ◌+◌, List, [], ◌∷◌, ◌++◌, length, map, take, Option, Some, None, Err, refl, sym, ap, ◌∙◌, subst, append_assoc, arith, length-append, inl}
 use Rattle.std.specs.List.{flat_map}
 use Rattle.std.specs.Io.KnownBytes.{Consumes, IsAtEnd}
 use Rattle.std.proofs.KnownBytes.{Consumes-trans}
@@ -10,12 +10,12 @@ use Rattle.hms_outside.proofs.SinkLemmas.{Goes-then}
 use Rattle.thrift_binary.specs.declared.head.Head.{Head}
 use Rattle.thrift_binary.specs.declared.fault.WireFault.{WireFault}
 use Rattle.thrift_binary.specs.declared.fault.WireFault.TheVariants.{Truncated, BadWire, TooLarge, ReadFault, NoMemory}
-use Rattle.thrift_binary.specs.Taking.{Took, TookSome, Reads, moved}
+use Rattle.thrift_binary.specs.Taking.{Took, Reads, moved}
 use Rattle.thrift_binary.specs.Wire.{BeginsWithMessage, IsMessage, IsMessageOrEnd, Spells, StopsMessage, WasCut}
 use Rattle.thrift_binary.proofs.Reading.{Took-then}
 use Rattle.thrift_binary.proofs.OneReading.{IsPlaced, cut_moved, no_message, placed_moved, some_message, some_stopped}
 use Rattle.ms_cli.specs.Replies.{reply_of}
-use Rattle.ms_cli.specs.Session.{Answered, AnsweredPart, Breaks, Interrupted, NoMessage, Served, Session, end_of_fault, ends_of, known}
+use Rattle.ms_cli.specs.Session.{Answered, Breaks, Interrupted, NoMessage, Served, Session, end_of_fault, ends_of, known}
 use Rattle.ms_cli.specs.declared.session.End.TheVariants as ended
 
 -- these messages were taken and answered whole, up to this place

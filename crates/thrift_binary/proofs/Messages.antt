@@ -1,12 +1,12 @@
 -- Texts, heads and messages, from their parts.
-use Rattle.std.proofs.Common.{◌≡◌, ℕ, ◌+◌, ◌<◌, ◌≤◌, ℤ, pos, List, [], ◌∷◌, ◌++◌, length, Option, Some, None, Ok, IfSome, OnSome, IsNone, refl, sym, ap, ◌∙◌, subst, append_assoc, arith, length-append, w32, to_z, of_z}
+use Rattle.std.proofs.Common.{◌≡◌, ℕ, ◌<◌, ◌≤◌, ℤ, pos, List, [], ◌∷◌, ◌++◌, length, Option, Some, None, Ok, IfSome, OnSome, IsNone, refl, sym, ap, ◌∙◌, subst, append_assoc, arith, length-append, w32, to_z, of_z}
 use mir.Val.{SFits}
 use Rattle.std.proofs.lemmas.Int.{to_z-of_z}
 use Rattle.std.specs.Str.{IsUtf8}
 use Rattle.cat_values.specs.declared.text.TheConstants.{TEXT_LIMIT}
 use Rattle.thrift_binary.specs.declared.head.Head.{Head}
 use Rattle.thrift_binary.specs.Taking.{Took}
-use Rattle.thrift_binary.specs.Wire.{Behind, int_bytes, text_bytes, head_bytes, IsThen, IsLength, IsBody, IsString, IsText, IsWord, StopsWord, IsNamed, StopsNamed, IsHead, StopsHead, IsField, IsMessage, Fits}
+use Rattle.thrift_binary.specs.Wire.{Behind, int_bytes, text_bytes, head_bytes, IsThen, IsLength, IsBody, IsString, IsText, IsWord, StopsWord, IsNamed, StopsNamed, IsHead, IsField, IsMessage}
 use Rattle.thrift_binary.proofs.Reading.{Took-then, reads_then}
 
 -- a text is its length and its bytes

@@ -1,8 +1,8 @@
 -- Bytes are read in one way: what stands at the front of a text is determined by the text.
-use Rattle.std.proofs.Common.{◌≡◌, ◌≢◌, ℕ, ◌+◌, ◌<◌, ◌≤◌, List, [], ◌∷◌, ◌++◌, length, take, Option, Some, None, ℤ, pos, ◌<ℤ◌, refl, sym, ap, ◌∙◌, subst, append_assoc, arith, inl, inr, length-append, w32, get_or}
+use Rattle.std.proofs.Common.{◌≡◌, ◌≢◌, ℕ, ◌+◌, ◌<◌, ◌≤◌, List, [], ◌∷◌, ◌++◌, length, take, Option, Some, None, ℤ, pos, refl, sym, ap, ◌∙◌, subst, append_assoc, arith, inl, inr, length-append, w32, get_or}
 use mir.Val.{SFits}
 use Rattle.std.specs.Str.{IsUtf8}
-use Rattle.std.specs.Int.{to_be_bytes, from_be_bytes, cast_unsigned, cast_signed}
+use Rattle.std.specs.Int.{from_be_bytes, cast_unsigned, cast_signed}
 use Rattle.std.proofs.lemmas.List.{append_cancel_left}
 use Rattle.std.proofs.Math.Seq.{take-append_seam}
 use Rattle.std.proofs.lemmas.Int.{to_z-of_z, ints}
@@ -13,7 +13,7 @@ use Rattle.thrift_binary.specs.declared.head.Head.{Head}
 use Rattle.thrift_binary.specs.declared.fault.WireFault.{WireFault}
 use Rattle.thrift_binary.specs.declared.fault.WireFault.TheVariants.{Truncated, BadWire, TooLarge, ReadFault, NoMemory}
 use Rattle.thrift_binary.specs.Taking.{moved}
-use Rattle.thrift_binary.specs.Wire.{int_bytes, text_bytes, head_bytes, Behind, IsThen, StopsThen, IsInt, StopsShort, IsLength, StopsLength, IsBody, IsString, StopsString, IsText, IsName, StopsName, IsCode, IsFieldType, StopsFieldType, IsField, StopsField, IsWord, IsStrict, StopsWord, IsNamed, StopsNamed, IsHead, StopsHead, StopsNothing, IsMessage, StopsMessage, BeginsWithMessage, Fits, Spells, IsCut, WasCut, StopsAreNoMessages, MessagesReadOneWay}
+use Rattle.thrift_binary.specs.Wire.{int_bytes, text_bytes, head_bytes, Behind, IsThen, StopsThen, IsInt, StopsShort, IsLength, StopsLength, IsBody, IsString, StopsString, IsName, StopsName, IsCode, IsFieldType, StopsFieldType, IsField, StopsField, IsWord, StopsWord, IsNamed, StopsNamed, IsHead, StopsHead, StopsNothing, IsMessage, StopsMessage, Spells, IsCut, WasCut, StopsAreNoMessages, MessagesReadOneWay}
 
 -- fronts of one length are equal
 front_same : (x y u v : List ℕ) → length x ≡ length y → x ++ u ≡ y ++ v → x ≡ y

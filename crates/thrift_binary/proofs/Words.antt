@@ -1,6 +1,5 @@
 -- Short lists of bytes, and the words that they are.
-use Rattle.std.proofs.Common.{◌≡◌, ℕ, ◌+◌, ◌<◌, List, [], ◌∷◌, length, get_or, refl, sym, ap, ◌∙◌, subst, inl, inr, arith}
-use Rattle.thrift_binary.specs.declared.fault.WireFault.{WireFault}
+use Rattle.std.proofs.Common.{◌≡◌, ℕ, List, [], ◌∷◌, length, get_or, refl, ap, ◌∙◌, inr, arith}
 use Rattle.thrift_binary.specs.declared.fault.WireFault.TheVariants.{BadWire}
 use Rattle.thrift_binary.specs.Wire.{IsCode, IsStrict, StopsFieldType, StopsWord}
 

@@ -1,7 +1,7 @@
-use Rattle.std.proofs.Common.{◌≡◌, ◌-◌, List, ℕ, ◌++◌, length, Err, refl, ap, ◌∙◌, rules, arith, sym, vec_len}
+use Rattle.std.proofs.Common.{◌≡◌, ◌-◌, List, ℕ, ◌++◌, length, Err, vec_len}
 use Rattle.std.proofs.lemmas.Result.{err_from_is_err_and}
 use Rattle.thrift_binary.specs.Wire.{IsBody, StopsShort}
-use Rattle.thrift_binary.proofs.Reading.{Took-then, reads_then, fault_again, short_behind}
+use Rattle.thrift_binary.proofs.Reading.{reads_then, fault_again, short_behind}
 use Rattle.thrift_binary.proofs.reader.WireReader.body.Goals as goal
 
 pub returns-in_err-more-clause-reads : goal.returns-in_err-more-clause-reads

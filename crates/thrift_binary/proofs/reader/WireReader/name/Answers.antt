@@ -1,4 +1,4 @@
-use Rattle.std.proofs.Common.{refl, inr, ap, arith}
+use Rattle.std.proofs.Common.{refl, inr}
 use Rattle.thrift_binary.specs.declared.fault.WireFault.TheVariants.{BadWire}
 use Rattle.thrift_binary.proofs.Reading.{Took-weaker}
 use Rattle.thrift_binary.proofs.reader.WireReader.name.Goals as goal

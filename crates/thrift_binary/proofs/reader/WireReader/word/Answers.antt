@@ -1,7 +1,7 @@
 use Rattle.std.proofs.Common.{refl, inl, inr, ap, subst, length, arith, sym, rules}
 use Rattle.thrift_binary.specs.declared.fault.WireFault.TheVariants.{BadWire}
 use Rattle.thrift_binary.specs.Wire.{IsStrict, StopsWord}
-use Rattle.thrift_binary.proofs.Reading.{Took-weaker, word_cut}
+use Rattle.thrift_binary.proofs.Reading.{Took-weaker}
 use Rattle.thrift_binary.proofs.Words.{other_kind}
 use Rattle.thrift_binary.proofs.reader.WireReader.word.Goals as goal
 
