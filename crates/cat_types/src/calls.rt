@@ -1,7 +1,7 @@
 //! What a caller asks of the catalogue.
 
 use crate::DbArg;
-use cat_values::{NoMemory, TryCopy};
+use cat_values::{NoMemory, Text, TryCopy};
 use std::alloc::Global;
 
 /// A call of the catalogue with its arguments.
@@ -9,6 +9,8 @@ use std::alloc::Global;
 pub enum Call {
     /// The names of all databases.
     GetAllDatabases,
+    /// The database with this name.
+    GetDatabase { name: Text },
     /// Makes a database.
     CreateDatabase { db: DbArg },
 }
@@ -17,6 +19,10 @@ impl TryCopy for Call {
     fn copy(&self, alloc: Global) -> Result<Call, NoMemory> {
         match self {
             Call::GetAllDatabases => Ok(Call::GetAllDatabases),
+            Call::GetDatabase { name } => match name.copy(alloc) {
+                Ok(name) => Ok(Call::GetDatabase { name }),
+                Err(NoMemory) => Err(NoMemory),
+            },
             Call::CreateDatabase { db } => match db.copy(alloc) {
                 Ok(db) => Ok(Call::CreateDatabase { db }),
                 Err(NoMemory) => Err(NoMemory),

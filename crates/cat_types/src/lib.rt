@@ -5,6 +5,8 @@
 mod arguments;
 mod calls;
 mod changes;
+mod items;
+mod replicas;
 mod replies;
 mod steps;
 
@@ -15,6 +17,8 @@ pub use cat_values::{
     Orders, Params, PartRec, PlaceMap, Serde, Skew, StatRec, StatValue, Stats, Storage, TEXT_LIMIT,
     TableRec, Text, TextFault, TextLists, Texts, TryCopy,
 };
-pub use changes::{Change, Event, EventKind, Op, Ops};
+pub use changes::{Change, Event, EventKind, Events, Op, Ops};
+pub use items::{Item, Items};
+pub use replicas::{Marked, MarkedOps, Phase, ReplicaRow};
 pub use replies::Reply;
 pub use steps::{Answer, Step};

@@ -1,6 +1,6 @@
 //! What the catalogue replies.
 
-use cat_values::{NoMemory, Text, Texts, TryCopy};
+use cat_values::{CopyParts, DbRec, NoMemory, Text, Texts, TryCopy};
 use std::alloc::Global;
 
 /// The result of a call, or its refusal.
@@ -10,6 +10,8 @@ pub enum Reply {
     Nothing,
     /// Names, in byte order.
     Names(Texts),
+    /// A database: its name and what is kept of it.
+    Db(Text, DbRec),
     /// The call was refused: the number of the refusal, and its text.
     Refused(u8, Text),
 }
@@ -20,6 +22,10 @@ impl TryCopy for Reply {
             Reply::Nothing => Ok(Reply::Nothing),
             Reply::Names(names) => match names.copy(alloc) {
                 Ok(names) => Ok(Reply::Names(names)),
+                Err(NoMemory) => Err(NoMemory),
+            },
+            Reply::Db(name, rec) => match (name, rec).copy_parts(alloc) {
+                Ok((name, rec)) => Ok(Reply::Db(name, rec)),
                 Err(NoMemory) => Err(NoMemory),
             },
             Reply::Refused(number, text) => match text.copy(alloc) {

@@ -116,6 +116,18 @@ impl<T: Copy> ListOf<T> {
     {
         ListOf::from_vec(Vec::from_slice(alloc, items)?)
     }
+
+    /// Adds copies of these elements at the end; after `NoMemory` the list is as before.
+    pub fn extend_from_slice(&mut self, items: &[T]) -> Result<(), NoMemory>
+        ensures ok { OnOk result (self.new ≡ self.old ++ items.now) }
+        ensures err { OnErr result (self.new ≡ self.old) }
+    {
+        if items.len() >= LIST_END - self.items.len() {
+            return Err(NoMemory);
+        }
+        self.items.extend_from_slice(items)?;
+        Ok(())
+    }
 }
 
 impl<T: TryCopy> TryCopy for ListOf<T> {

@@ -1,13 +1,15 @@
 //! A map with fewer than 2^31 pairs.
 
-ghost use Rattle.std.specs.Prelude.{◌≡◌, ◌<◌, ◌≤◌, ◌+◌, [], length, IfOk, OnOk, OnErr};
+ghost use Rattle.std.specs.Prelude.{◌≡◌, ◌<◌, ◌≤◌, ◌+◌, ◌-◌, [], length, slice_get, IfOk, OnOk, OnErr};
 ghost use Rattle.std.specs.Option.{option_copied};
 ghost use Rattle.std.specs.BTreeMap.{btree_map_len, insert_entry, is_at};
+ghost use Rattle.std.specs.List.Sorted.{IsStrictlySortedBy};
 ghost use Rattle.std.specs.Map.{keys_of, lookup, remove_entry};
 
 use crate::{ListOf, NoMemory, Text, TryCopy};
 use std::alloc::Global;
 use std::collections::BTreeMap;
+use std::collections::btree_map::Iter;
 use std::marker::Model;
 
 /// A map from texts to texts, the parameters of an object.
@@ -58,6 +60,25 @@ impl<K: Ord, V> MapOf<K, V> {
         ensures { option_copied result ≡ lookup (is_at (K.cmp key.now)) self.now }
     {
         self.inner.get(key)
+    }
+
+    /// The greatest key.
+    pub fn last_key(&self) -> Option<&K>
+        ensures { option_copied result ≡ slice_get (keys_of self.now) (length self.now - 1) }
+    {
+        match self.inner.last_key_value() {
+            Some((key, _)) => Some(key),
+            None => None,
+        }
+    }
+
+    /// The pairs, in rising order of their keys.
+    pub fn iter(&self) -> Iter<'_, K, V>
+        ensures pairs { result ≡ self.now }
+        ensures sorted { IsStrictlySortedBy K.cmp (keys_of self.now) }
+        ensures bounded { length self.now < MAP_END }
+    {
+        self.inner.iter()
     }
 }
 

@@ -3,14 +3,15 @@ use Rattle.std.proofs.Common.{◌≡◌, ℕ, Bool, true, false, not, [], ◌∷
 use Rattle.std.proofs.lemmas.Bool.{ltb-false}
 use Rattle.cat_types.specs.declared.arguments.DbArg.{DbArg}
 use Rattle.cat_types.specs.declared.calls.Call.{Call}
-use Rattle.cat_types.specs.declared.calls.Call.TheVariants.{CreateDatabase, GetAllDatabases}
+use Rattle.cat_types.specs.declared.calls.Call.TheVariants.{CreateDatabase, GetAllDatabases, GetDatabase}
 use Rattle.cat_types.specs.declared.changes.Change.{Change}
 use Rattle.cat_types.specs.declared.changes.EventKind.TheVariants as kind
 use Rattle.cat_types.specs.declared.changes.Op.TheVariants.{PutDb}
 use Rattle.cat_types.specs.declared.replies.Reply.{Reply}
 use Rattle.cat_types.specs.declared.replies.Reply.TheVariants.{Nothing}
 use Rattle.catalogue.specs.Catalogue.{Catalogue, database, has_database}
-use Rattle.catalogue.specs.Rules.{create_refusal, decided_as, decision, is_named, kept_name, kept_record, CanBeDone, Decides, IfChange}
+use Rattle.catalogue.specs.Rules.{create_refusal, decided_as, decision, is_named, kept_name, kept_record, refusal, result_of, CanBeDone, Decides, IfChange}
+use Rattle.catalogue.specs.declared.bars.Bars.{Bars}
 use Rattle.catalogue.specs.declared.decided.Decided.{Decided}
 use Rattle.catalogue.specs.declared.decided.Decided.TheVariants as decided
 use Rattle.catalogue.specs.declared.decision.TheConstants.{DATABASE_LIMIT, LAST_EVENT}
@@ -39,12 +40,18 @@ creation_can cat db next None c r refused is =
     let there : database cat (kept_name db.name) ≡ None = absent (database cat (kept_name db.name)) tests.0 in
     ((kept_record db.rec, ap (λ (x : Change). x.ops) same, ap (λ (x : Change). database cat x.db) same ∙ there), ltb-false LAST_EVENT next tests.1)
 
--- what is decided to be changed can be done
-pub decided_can : (cat : Catalogue) (call : Call) (next : ℕ) (c : Change) (r : Reply) → decided.Change c r ≡ decision cat call next → CanBeDone cat next c
-decided_can cat GetAllDatabases next c r is = absurd cc
-decided_can cat (CreateDatabase db) next c r is = creation_can cat db next (create_refusal cat db next) c r refl is
+-- a call that changes nothing
+no_change : (cat : Catalogue) (next : ℕ) (o : Option ℕ) (c : Change) (r s : Reply) → decided.Change c r ≡ decided_as o None s → CanBeDone cat next c
+no_change cat next None c r s is = absurd cc
+no_change cat next (Some n) c r s is = absurd cc
 
-pub decided_all : (cat : Catalogue) (call : Call) (next : ℕ) (answer : Decided) → Decides cat call next answer → IfChange answer (CanBeDone cat next)
-decided_all cat call next (decided.Change c r) is = decided_can cat call next c r is
-decided_all cat call next (decided.Reply r) is = tt
-decided_all cat call next decided.NoMemory is = tt
+-- what is decided to be changed can be done
+pub decided_can : (cat : Catalogue) (bars : Bars) (call : Call) (next : ℕ) (c : Change) (r : Reply) → decided.Change c r ≡ decision cat bars call next → CanBeDone cat next c
+decided_can cat bars GetAllDatabases next c r is = absurd cc
+decided_can cat bars (GetDatabase name) next c r is = no_change cat next (refusal cat (GetDatabase name) next) c r (result_of cat bars (GetDatabase name)) is
+decided_can cat bars (CreateDatabase db) next c r is = creation_can cat db next (create_refusal cat db next) c r refl is
+
+pub decided_all : (cat : Catalogue) (bars : Bars) (call : Call) (next : ℕ) (answer : Decided) → Decides cat bars call next answer → IfChange answer (CanBeDone cat next)
+decided_all cat bars call next (decided.Change c r) is = decided_can cat bars call next c r is
+decided_all cat bars call next (decided.Reply r) is = tt
+decided_all cat bars call next decided.NoMemory is = tt

@@ -2,7 +2,8 @@
 
 ghost use Rattle.std.specs.Prelude.{◌≡◌, IfOk, length};
 ghost use Rattle.std.specs.Map.{keys_of};
-ghost use Rattle.catalogue.specs.Catalogue.{has_database, new_catalogue};
+ghost use Rattle.std.specs.Option.{option_copied};
+ghost use Rattle.catalogue.specs.Catalogue.{database, has_database, new_catalogue};
 
 use cat_types::{DbRec, MapOf, NoMemory, Text, Texts};
 use std::alloc::Global;
@@ -54,6 +55,13 @@ impl Cat {
         ensures { result ≡ has_database self.now name.now }
     {
         self.databases.get(name).is_some()
+    }
+
+    // The born and the record of the database with this name, which is in lower case.
+    pub(crate) fn database(&self, name: &Text) -> Option<&(u64, DbRec)>
+        ensures { option_copied result ≡ database self.now name.now }
+    {
+        self.databases.get(name)
     }
 
     /// How many databases there are.

@@ -2,14 +2,13 @@
 
 ghost use Rattle.std.specs.Prelude.{◌≡◌, [], ◌∷◌, IfOk};
 ghost use Rattle.catalogue.specs.Rules.{CanBeDone, Decides, IfChange, OnDecided, kept_record, lower, refusal_text};
-ghost use Rattle.cat_types.specs.declared.calls.Call.TheVariants.{CreateDatabase};
+ghost use Rattle.cat_types.specs.declared.calls.Call.TheVariants.{CreateDatabase, GetDatabase};
 ghost use Rattle.cat_types.specs.declared.replies.Reply.TheVariants.{Refused};
 
+use crate::showing::{kept_record, shown_record};
 use crate::{Bars, Cat, Decided};
 use cat_rules::object_name;
-use cat_types::{
-    Call, Change, DbArg, DbRec, EventKind, ListOf, NoMemory, Op, Reply, Text, TryCopy,
-};
+use cat_types::{Call, Change, DbArg, DbRec, EventKind, ListOf, NoMemory, Op, Reply, Text};
 use std::alloc::Global;
 
 /// How many databases a store has at most.
@@ -20,37 +19,54 @@ pub const LAST_EVENT: u64 = 9_223_372_036_854_775_807;
 
 /// Decides a call over a catalogue: its refusal, or its change and its result. `bars` says what
 /// bars changes, `moment` is the time in seconds since 1970, and `next` the number that an event of
-/// this call would get. The calls that are here so far need neither bars nor the moment.
+/// this call would get. The calls that are here so far don't need the moment.
 pub fn decide(
     alloc: Global,
     cat: &Cat,
-    _bars: &Bars,
+    bars: &Bars,
     call: &Call,
     _moment: u64,
     next: u64,
 ) -> Decided
-    ensures decided { Decides cat.now call.now next result }
+    ensures decided { Decides cat.now bars.now call.now next result }
     ensures can { IfChange result (CanBeDone cat.now next) }
 {
-    decide_call(alloc, cat, call, next)
+    decide_call(alloc, cat, bars, call, next)
 }
 
 // Decides a call.
-fn decide_call(alloc: Global, cat: &Cat, call: &Call, next: u64) -> Decided
-    ensures { Decides cat.now call.now next result }
+fn decide_call(alloc: Global, cat: &Cat, bars: &Bars, call: &Call, next: u64) -> Decided
+    ensures { Decides cat.now bars.now call.now next result }
 {
     match call {
         Call::GetAllDatabases => match cat.names(alloc) {
             Ok(names) => Decided::Reply(Reply::Names(names)),
             Err(NoMemory) => Decided::NoMemory,
         },
-        Call::CreateDatabase { db } => decide_create(alloc, cat, db, next),
+        Call::GetDatabase { name } => decide_get(alloc, cat, bars, name, next),
+        Call::CreateDatabase { db } => decide_create(alloc, cat, bars, db, next),
+    }
+}
+
+// A database by its name.
+fn decide_get(alloc: Global, cat: &Cat, bars: &Bars, name: &Text, _next: u64) -> Decided
+    ensures { Decides cat.now bars.now (GetDatabase name.now) _next result }
+{
+    let Ok(name) = lower(alloc, name) else {
+        return Decided::NoMemory;
+    };
+    let Some((_, rec)) = cat.database(&name) else {
+        return refused(alloc, 2);
+    };
+    match shown_record(alloc, &bars.replicas, &name, rec) {
+        Ok(rec) => Decided::Reply(Reply::Db(name, rec)),
+        Err(NoMemory) => Decided::NoMemory,
     }
 }
 
 // Creating a database.
-fn decide_create(alloc: Global, cat: &Cat, db: &DbArg, next: u64) -> Decided
-    ensures { Decides cat.now (CreateDatabase db.now) next result }
+fn decide_create(alloc: Global, cat: &Cat, _bars: &Bars, db: &DbArg, next: u64) -> Decided
+    ensures { Decides cat.now _bars.now (CreateDatabase db.now) next result }
 {
     let Some(name) = &db.name else {
         return refused(alloc, 3);
@@ -92,18 +108,6 @@ fn creation(alloc: Global, name: Text, rec: &DbRec, born: u64) -> Result<Change,
     })
 }
 
-// A record as it is kept.
-fn kept_record(alloc: Global, rec: &DbRec) -> Result<DbRec, NoMemory>
-    ensures { IfOk result (λ made. made ≡ kept_record rec.now) }
-{
-    let Ok(position) = Text::of(alloc, "repl.last.id") else {
-        return Err(NoMemory);
-    };
-    let mut kept = rec.copy(alloc)?;
-    let _ = kept.params.remove(&position);
-    Ok(kept)
-}
-
 // A name with its ASCII letters in lower case.
 fn lower(alloc: Global, name: &Text) -> Result<Text, NoMemory>
     ensures { IfOk result (λ made. made ≡ lower name.now) }
@@ -122,6 +126,7 @@ fn refused(alloc: Global, number: u8) -> Decided
 {
     let text = match number {
         1 => "already exists",
+        2 => "no such object",
         3 => "invalid object",
         _ => "event numbers used up",
     };

@@ -6,6 +6,7 @@ mod cat;
 mod decided;
 mod decision;
 mod placing;
+mod showing;
 
 pub use bars::{Bars, ReplicaAt, ReplicaAts};
 pub use cat::Cat;

@@ -9,6 +9,7 @@ use Rattle.cat_types.specs.declared.steps.Step.TheVariants.{Client}
 use Rattle.catalogue.specs.Catalogue.{Catalogue, new_catalogue}
 use Rattle.catalogue.specs.Changes.{done}
 use Rattle.catalogue.specs.Rules.{decision}
+use Rattle.catalogue.specs.declared.bars.Bars.{Bars}
 use Rattle.catalogue.specs.declared.decided.Decided.{Decided}
 use Rattle.catalogue.specs.declared.decided.Decided.TheVariants as decided
 
@@ -55,9 +56,13 @@ due_by (decided.Change change reply) state moment = record { answer = answer.Rep
 due_by (decided.Reply reply) state moment = record { answer = answer.Reply reply; state = state }
 due_by decided.NoMemory state moment = record { answer = answer.NoMemory; state = state }
 
+-- what bars changes; so far no state has replicas, dumps or loads
+abbrev pub bars : Bars
+bars = record { replicas = []; dumping = []; loading = [] }
+
 -- the one answer to a caller's step, and the one state behind it
 abbrev pub due : State → ℕ → Step → Due
-due state caller (Client call moment) = due_by (decision state.catalogue call (state.newest + 1)) state moment
+due state caller (Client call moment) = due_by (decision state.catalogue bars call (state.newest + 1)) state moment
 
 -- the event of a decision
 abbrev pub event_by : Decided → State → ℕ → Option Event
@@ -66,7 +71,7 @@ event_by other state moment = None
 
 -- the event that a step keeps, where it is answered as is due
 abbrev pub event_of : State → Step → Option Event
-event_of state (Client call moment) = event_by (decision state.catalogue call (state.newest + 1)) state moment
+event_of state (Client call moment) = event_by (decision state.catalogue bars call (state.newest + 1)) state moment
 
 abbrev pub changes : Decided → Bool
 changes (decided.Change change reply) = true
@@ -74,7 +79,7 @@ changes other = false
 
 -- whether a step changes what is on the disks
 abbrev pub writes : State → Step → Bool
-writes state (Client call moment) = changes (decision state.catalogue call (state.newest + 1))
+writes state (Client call moment) = changes (decision state.catalogue bars call (state.newest + 1))
 
 -- one step of a store that has no disk: what is due, or want of memory and nothing changed
 abbrev pub Takes : State → ℕ → Step → Answer → State → Type 0

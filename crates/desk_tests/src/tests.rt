@@ -47,6 +47,19 @@ fn joined(alloc: Global, answer: Answer) -> Result<String, Fail> {
     Ok(all)
 }
 
+fn get(alloc: Global, name: &str) -> Result<Call, Fail> {
+    let name = Text::of(alloc, name)?;
+    Ok(Call::GetDatabase { name })
+}
+
+// Whether a database with this name is shown.
+fn is_shown(answer: &Answer, name: &str) -> bool {
+    match answer {
+        Answer::Reply(Reply::Db(shown, _)) => shown.as_str() == name,
+        _ => false,
+    }
+}
+
 // The number of a refusal, or 0.
 fn refusal(answer: Answer) -> u8 {
     match answer {
@@ -175,5 +188,19 @@ fn a_store_answers_as_the_plain_rules_do(rt: HostRuntime) -> Result<(), Fail> {
         let listed = joined(alloc, core.turn(0, list()))?;
         assert_eq!(rt; listed.as_str(), plain.list(alloc)?.as_str(), "{name}");
     }
+    Ok(())
+}
+
+#[test]
+fn a_database_is_shown_by_its_name(rt: HostRuntime) -> Result<(), Fail> {
+    let alloc = rt.alloc();
+    let mut core = MemCore::new(alloc, ID, 0)?;
+    let _ = core.turn(0, create(alloc, "Sales")?);
+    let call = get(alloc, "SALES")?;
+    let shown = core.turn(0, Step::Client { call, moment: 5 });
+    assert!(rt; is_shown(&shown, "sales"));
+    let call = get(alloc, "other")?;
+    let missing = core.turn(0, Step::Client { call, moment: 5 });
+    assert_eq!(rt; refusal(missing), 2);
     Ok(())
 }

@@ -1,0 +1,5 @@
+//! Tests of texts, lists and maps.
+#![tactic(auto)]
+
+#[cfg(test)]
+mod tests;

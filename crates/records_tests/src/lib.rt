@@ -1,0 +1,5 @@
+//! Tests of the copies of records.
+#![tactic(auto)]
+
+#[cfg(test)]
+mod tests;
