@@ -8,6 +8,8 @@ use std::alloc::Global;
 pub enum Reply {
     /// The call was done, and has no result.
     Nothing,
+    /// A number of four bytes.
+    Number(i32),
     /// Names, in byte order.
     Names(Texts),
     /// A database: its name and what is kept of it.
@@ -20,6 +22,7 @@ impl TryCopy for Reply {
     fn copy(&self, alloc: Global) -> Result<Reply, NoMemory> {
         match self {
             Reply::Nothing => Ok(Reply::Nothing),
+            Reply::Number(number) => Ok(Reply::Number(*number)),
             Reply::Names(names) => match names.copy(alloc) {
                 Ok(names) => Ok(Reply::Names(names)),
                 Err(NoMemory) => Err(NoMemory),

@@ -1,4 +1,5 @@
 pub mod State
 pub mod History
 pub mod Entries
+pub mod Adds
 pub mod Scripts

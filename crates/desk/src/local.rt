@@ -1,6 +1,6 @@
 //! The desk of one caller alone.
 
-ghost use Rattle.std.specs.Prelude.{◌≡◌};
+ghost use Rattle.std.specs.Prelude.{◌≡◌, true};
 
 use crate::{Core, Desk};
 use cat_types::{Answer, Step};
@@ -35,6 +35,8 @@ impl<C: Core> Desk for LocalDesk<C> {
     ghost faults = { λ d. C.faults d.core };
 
     ghost caller = { λ _. 0 };
+
+    ghost alone = { true };
 
     fn step(&mut self, s: Step) -> Answer {
         self.core.turn(0, s)

@@ -1,6 +1,6 @@
 //! A desk between whose steps others take turns by a script.
 
-ghost use Rattle.std.specs.Prelude.{◌≡◌, ◌≤◌, ◌++◌, ◌∷◌, [], List, drop};
+ghost use Rattle.std.specs.Prelude.{◌≡◌, ◌≤◌, ◌++◌, ◌∷◌, [], IsTrue, List, drop, false};
 ghost use Rattle.desk.specs.Entries.{Others};
 ghost use Rattle.desk.specs.Scripts.{AskedBy, IsAskedBy};
 ghost use Rattle.desk.specs.History.{Entry, Legal};
@@ -87,10 +87,13 @@ impl<C: Core> Desk for ScriptDesk<C> {
 
     ghost caller = { λ _. 0 };
 
+    ghost alone = { false };
+
     fn step(&mut self, s: Step) -> Answer
         ensures start { C.start self.new.core ≡ C.start self.old.core }
         ensures turns { (between : List Entry) × Others 0 between
             × (C.history self.new.core ≡ (C.history self.old.core ++ between) ++ (record { caller = 0; step = s }, record { answer = result; fault = C.faults self.new.core }) ∷ []) }
+        ensures sole { IsTrue false → C.history self.new.core ≡ C.history self.old.core ++ (record { caller = 0; step = s }, record { answer = result; fault = C.faults self.new.core }) ∷ [] }
         ensures legal { Legal (C.start self.new.core) (C.history self.new.core) }
         // The turns before it are those of the script's next list, and the others are still to come.
         ensures script { (between : List Entry) × AskedBy (next_list (lists_of self.old.to_come)) between

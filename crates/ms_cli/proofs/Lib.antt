@@ -1,4 +1,2 @@
 pub mod Lines
 pub mod Commands
-pub mod Gathering
-pub mod Turns

@@ -1,11 +1,13 @@
 -- What the top call of one process does.
-use Rattle.std.specs.Prelude.{◌≡◌, ℕ, ◌⊎◌, List, [], ◌∷◌, ◌++◌, take, codes, Option}
+use Rattle.std.specs.Prelude.{◌≡◌, ℕ, ◌⊎◌, List, [], ◌∷◌, ◌++◌, replicate, take, codes, Option, Result, MatchResult}
 use Rattle.std.specs.Fmt.{decimal}
 use Rattle.std.specs.Io.KnownBytes.{Consumes}
 use Rattle.hms_outside.specs.Told.{Goes, Grew, Held, Same, Sent}
-use Rattle.ms_cli.specs.Session.{Session}
-use Rattle.ms_cli.specs.declared.session.End.{End}
-use Rattle.ms_cli.specs.declared.session.End.TheVariants.{Done, Truncated, BadWire, TooLarge, ReadFault, WriteFault, NoMemory}
+use Rattle.desk.specs.History.{Entry, Legal, Start}
+use Rattle.desk.specs.State.{start}
+use Rattle.ms_session.specs.Session.{Met, Session}
+use Rattle.ms_session.specs.declared.end.End.{End}
+use Rattle.ms_session.specs.declared.end.End.TheVariants.{Done, Truncated, BadWire, TooLarge, ReadFault, WriteFault, NoMemory}
 
 -- the words are the one command that there is
 abbrev pub IsPipe : List (List ℕ) → Type 0
@@ -44,21 +46,41 @@ abbrev pub Tells : End → Option Held → Option Held → Type 0
 Tells Done old new = Goes Same old new
 Tells end old new = Lines (line_of end) old new
 
--- the words are the command: a session was served over the catalogue of a new store, and its end told
-pub record Piped (words : List (List ℕ)) (left left' : Option (List ℕ)) (held held' errors errors' : Option Held) (status : ℕ) : Type 0 where
+-- a call that tells a line: after Ok it was added whole and flushed, and after an Err a front of it was added
+abbrev pub TellsLine : {T E : Type 0} → List ℕ → Result T E → Option Held → Option Held → Type 0
+TellsLine line result old new = MatchResult result (λ _. Goes (Sent line) old new) (λ _. (n : ℕ) × Goes (Grew (take n line)) old new)
+
+-- a call that had no memory for its line: an Err, and nothing was added
+abbrev pub TellsNothing : {T E : Type 0} → Result T E → Option Held → Option Held → Type 0
+TellsNothing result old new = MatchResult result (λ _. ⊥) (λ _. Goes Same old new)
+
+-- a call that tells an end: a good one has no line, and the call is an Ok
+abbrev pub TellsEnd : {T E : Type 0} → End → Result T E → Option Held → Option Held → Type 0
+TellsEnd Done result old new = MatchResult result (λ _. Goes Same old new) (λ _. ⊥)
+TellsEnd end result old new = TellsLine (line_of end) result old new
+
+-- the store that the command begins with: a new one, whose id is sixteen zeros and whose events are numbered from 1
+abbrev pub new_store : Start
+new_store = record { state = start (replicate 16 0) 0; fault = 0 }
+
+-- the words are the command: a session was served at a new store to a caller alone, and its end told; these entries are all that the store went through
+pub record Piped (words : List (List ℕ)) (old new : Met) (errors errors' : Option Held) (status : ℕ) : Type 0 where
   pub command : IsPipe words
+  pub entries : List Entry
   pub ended : End
-  pub session : Session (codes "default" ∷ []) left left' held held' ended
+  pub legal : Legal new_store entries
+  pub session : Session old new entries ended
   pub status_is : status ≡ status_of ended
   pub told : Tells ended errors errors'
 
 -- the words are no command: nothing was taken, and nothing written but the line that says so
-pub record Refused (words : List (List ℕ)) (left left' : Option (List ℕ)) (held held' errors errors' : Option Held) (status : ℕ) : Type 0 where
+pub record Refused (words : List (List ℕ)) (old new : Met) (errors errors' : Option Held) (status : ℕ) : Type 0 where
   pub no_command : IsPipe words → ⊥
-  pub source_stays : Consumes left left' []
-  pub sink_stays : Goes Same held held'
+  pub source_stays : Consumes old.left new.left []
+  pub sink_stays : Goes Same old.held new.held
+  pub clock_stays : Goes Same old.clock new.clock
   pub status_is : status ≡ 2
   pub told : Lines usage errors errors'
 
-abbrev pub Runs : List (List ℕ) → Option (List ℕ) → Option (List ℕ) → Option Held → Option Held → Option Held → Option Held → ℕ → Type 0
-Runs words left left' held held' errors errors' status = Piped words left left' held held' errors errors' status ⊎ Refused words left left' held held' errors errors' status
+abbrev pub Runs : List (List ℕ) → Met → Met → Option Held → Option Held → ℕ → Type 0
+Runs words old new errors errors' status = Piped words old new errors errors' status ⊎ Refused words old new errors errors' status

@@ -2,9 +2,6 @@
 #![tactic(auto)]
 
 mod local;
-mod reply;
-mod session;
 mod telling;
 
 pub use local::{LocalEnd, run_local};
-pub use session::End;

@@ -1,15 +1,16 @@
 //! The top call of one process.
 
-ghost use Rattle.std.specs.Prelude.{◌≡◌, ◌↔◌, [], ◌∷◌, IsTrue, codes, map, string_bytes};
+ghost use Rattle.std.specs.Prelude.{◌≡◌, ◌≤◌, ◌↔◌, IsTrue, List, map, string_bytes};
 ghost use Rattle.hms_outside.specs.Causes.{Rose};
-ghost use Rattle.ms_cli.specs.Local.{IsPipe, Runs, Tells, status_of};
-ghost use Rattle.ms_cli.specs.Session.{Session};
-ghost use Rattle.ms_cli.specs.declared.session.End.{End};
+ghost use Rattle.desk.specs.History.{Entry, Legal};
+ghost use Rattle.ms_cli.specs.Local.{IsPipe, Runs, Tells, new_store, status_of};
+ghost use Rattle.ms_session.specs.Session.{Session};
+ghost use Rattle.ms_session.specs.declared.end.End.{End};
 
-use crate::session::{End, serve};
 use crate::telling::{tell, tell_usage};
-use catalogue::Cat;
+use desk::{LocalDesk, MemCore};
 use hms_outside::{Clock, Disk, Folder, Sink, Source};
+use ms_session::{End, serve_session};
 use std::alloc::Global;
 
 /// How the top call ended: the program's status, and the disks that it was given.
@@ -21,12 +22,13 @@ pub struct LocalEnd<D> {
 }
 
 /// Does the command that the words name. There is one so far, `pipe`: it answers the messages of
-/// `input` on `output`, over the catalogue of a new store in memory.
+/// `input` on `output`, over a new store in memory, whose one caller it is. Each call of the
+/// catalogue is one step of that store, at the clock's next moment.
 ///
 /// The status is 0 where the whole input was messages; 2 where the words are no command; 3 where
 /// the input failed, and 4 where the output did; 7 where the input stops being messages; 10 where
-/// memory was refused. `errors` gains a line that tells any status but 0. The disks, the folder and
-/// the clock are not used yet.
+/// memory was refused. `errors` gains a line that tells any status but 0. The disks and the folder
+/// are not used yet.
 pub fn run_local<S: Source, K: Sink, E: Sink, D: Disk, F: Folder, C: Clock>(
     alloc: Global,
     words: &[String],
@@ -35,21 +37,21 @@ pub fn run_local<S: Source, K: Sink, E: Sink, D: Disk, F: Folder, C: Clock>(
     errors: &mut E,
     disk_a: D,
     disk_b: D,
-    _folder: &mut F,
-    _clock: &mut C,
+    folder: &mut F,
+    clock: &mut C,
 ) -> LocalEnd<D>
-    ensures runs { Runs (map string_bytes words.now) (S.left input.old) (S.left input.new) (K.held output.old) (K.held output.new) (E.held errors.old) (E.held errors.new) result.status }
+    ensures runs { Runs (map string_bytes words.now) (record { left = S.left input.old; held = K.held output.old; clock = C.moments clock.old }) (record { left = S.left input.new; held = K.held output.new; clock = C.moments clock.new }) (E.held errors.old) (E.held errors.new) result.status }
     ensures read { result.status ≡ 3 → Rose (S.faults input.old) (S.faults input.new) }
     ensures write { result.status ≡ 4 → Rose (K.faults output.old) (K.faults output.new) }
     ensures disk_a { result.disk_a ≡ disk_a }
     ensures disk_b { result.disk_b ≡ disk_b }
-    ensures folder { _folder.new ≡ _folder.old }
-    ensures clock { _clock.new ≡ _clock.old }
+    ensures folder { folder.new ≡ folder.old }
+    ensures clock { result.status ≡ 2 → clock.new ≡ clock.old }
 {
     let status = if is_pipe(words) {
-        pipe(alloc, input, output, errors)
+        pipe(alloc, input, output, errors, folder, clock)
     } else {
-        tell_usage(errors);
+        let _ = tell_usage(errors);
         2
     };
     LocalEnd {
@@ -69,30 +71,46 @@ fn is_pipe(words: &[String]) -> bool
     }
 }
 
-// Serves a session, tells its end and answers its status.
-fn pipe<S: Source, K: Sink, E: Sink>(
+// Serves a session, tells its end and answers its status, whatever became of the telling.
+fn pipe<S: Source, K: Sink, E: Sink, F: Folder, C: Clock>(
     alloc: Global,
     input: &mut S,
     output: &mut K,
     errors: &mut E,
+    folder: &mut F,
+    clock: &mut C,
 ) -> u8
-    ensures session { (ended : End) × Session (codes "default" ∷ []) (S.left input.old) (S.left input.new) (K.held output.old) (K.held output.new) ended × (result ≡ status_of ended) × Tells ended (E.held errors.old) (E.held errors.new) }
+    ensures session { (entries : List Entry) × (ended : End) × Legal new_store entries
+        × Session (record { left = S.left input.old; held = K.held output.old; clock = C.moments clock.old }) (record { left = S.left input.new; held = K.held output.new; clock = C.moments clock.new }) entries ended
+        × (result ≡ status_of ended) × Tells ended (E.held errors.old) (E.held errors.new) }
     ensures read { result ≡ 3 → Rose (S.faults input.old) (S.faults input.new) }
     ensures write { result ≡ 4 → Rose (K.faults output.old) (K.faults output.new) }
+    ensures folder { folder.new ≡ folder.old }
 {
-    let end = serve_new(alloc, input, output);
-    tell(alloc, errors, end);
+    let end = serve_new(alloc, input, output, folder, clock);
+    let _ = tell(alloc, errors, end);
     status(end)
 }
 
-// Serves a session over the catalogue of a new store.
-fn serve_new<S: Source, K: Sink>(alloc: Global, input: &mut S, output: &mut K) -> End
-    ensures session { Session (codes "default" ∷ []) (S.left input.old) (S.left input.new) (K.held output.old) (K.held output.new) result }
+// Serves a session at a new store in memory.
+fn serve_new<S: Source, K: Sink, F: Folder, C: Clock>(
+    alloc: Global,
+    input: &mut S,
+    output: &mut K,
+    folder: &mut F,
+    clock: &mut C,
+) -> End
+    ensures session { (entries : List Entry) × Legal new_store entries
+        × Session (record { left = S.left input.old; held = K.held output.old; clock = C.moments clock.old }) (record { left = S.left input.new; held = K.held output.new; clock = C.moments clock.new }) entries result }
     ensures read { result ≡ End.ReadFault → Rose (S.faults input.old) (S.faults input.new) }
     ensures write { result ≡ End.WriteFault → Rose (K.faults output.old) (K.faults output.new) }
+    ensures folder { folder.new ≡ folder.old }
 {
-    match Cat::new(alloc) {
-        Ok(cat) => serve(alloc, &cat, input, output),
+    match MemCore::new(alloc, [0; 16], 0) {
+        Ok(core) => {
+            let mut desk = LocalDesk::new(core);
+            serve_session(alloc, input, output, &mut desk, folder, clock)
+        }
         Err(_) => End::NoMemory,
     }
 }

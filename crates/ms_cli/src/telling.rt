@@ -1,19 +1,21 @@
 //! Telling on the sink of errors why the program doesn't end well.
 
-ghost use Rattle.std.specs.Prelude.{IfOk, OnErr, string_bytes};
-ghost use Rattle.hms_outside.specs.Told.{Goes, Same};
-ghost use Rattle.ms_cli.specs.Local.{Lines, Tells, usage};
+ghost use Rattle.std.specs.Prelude.{◌≤◌, IfOk, IsErrOf, OnErr, string_bytes};
+ghost use Rattle.hms_outside.specs.Causes.{Rose};
+ghost use Rattle.ms_cli.specs.Local.{TellsEnd, TellsLine, TellsNothing, usage};
 
-use crate::session::End;
-use hms_outside::{Sink, send_all};
+use hms_outside::{Outage, Sink, send_all};
+use ms_session::End;
 use std::alloc::{AllocError, Global};
 
-/// Tells how a session ended. A good end has no line, and a fault of the sink changes nothing.
-pub fn tell<E: Sink>(alloc: Global, errors: &mut E, end: End)
-    ensures { Tells end (E.held errors.old) (E.held errors.new) }
+/// Tells how a session ended. A good end has no line.
+pub fn tell<E: Sink>(alloc: Global, errors: &mut E, end: End) -> Result<(), Outage>
+    ensures told { TellsEnd end result (E.held errors.old) (E.held errors.new) }
+    ensures later { E.faults errors.old ≤ E.faults errors.new }
+    ensures cause { IsErrOf result Outage.Failed → Rose (E.faults errors.old) (E.faults errors.new) }
 {
     match end {
-        End::Done => {}
+        End::Done => Ok(()),
         End::Truncated(place) => {
             tell_text(errors, format!(in alloc; "wire: truncated at {place}\n"))
         }
@@ -30,25 +32,32 @@ pub fn tell<E: Sink>(alloc: Global, errors: &mut E, end: End)
 }
 
 /// Tells that the words are no command.
-pub fn tell_usage<E: Sink>(errors: &mut E)
-    ensures { Lines usage (E.held errors.old) (E.held errors.new) }
+pub fn tell_usage<E: Sink>(errors: &mut E) -> Result<(), Outage>
+    ensures told { TellsLine usage result (E.held errors.old) (E.held errors.new) }
+    ensures later { E.faults errors.old ≤ E.faults errors.new }
+    ensures cause { IsErrOf result Outage.Failed → Rose (E.faults errors.old) (E.faults errors.new) }
 {
-    tell_line(errors, "usage\n");
+    tell_line(errors, "usage\n")
 }
 
 // Writes a line, as far as the sink takes it.
-fn tell_line<E: Sink>(errors: &mut E, line: &str)
-    ensures { Lines line.now (E.held errors.old) (E.held errors.new) }
+fn tell_line<E: Sink>(errors: &mut E, line: &str) -> Result<(), Outage>
+    ensures told { TellsLine line.now result (E.held errors.old) (E.held errors.new) }
+    ensures later { E.faults errors.old ≤ E.faults errors.new }
+    ensures cause { IsErrOf result Outage.Failed → Rose (E.faults errors.old) (E.faults errors.new) }
 {
-    let _ = send_all(errors, line.as_bytes());
+    send_all(errors, line.as_bytes())
 }
 
 // Writes a line, if there was memory for it.
-fn tell_text<E: Sink>(errors: &mut E, line: Result<String, AllocError>)
-    ensures ok { IfOk line (λ text. Lines (string_bytes text) (E.held errors.old) (E.held errors.new)) }
-    ensures err { OnErr line (Goes Same (E.held errors.old) (E.held errors.new)) }
+fn tell_text<E: Sink>(errors: &mut E, line: Result<String, AllocError>) -> Result<(), Outage>
+    ensures ok { IfOk line (λ text. TellsLine (string_bytes text) result (E.held errors.old) (E.held errors.new)) }
+    ensures err { OnErr line (TellsNothing result (E.held errors.old) (E.held errors.new)) }
+    ensures later { E.faults errors.old ≤ E.faults errors.new }
+    ensures cause { IsErrOf result Outage.Failed → Rose (E.faults errors.old) (E.faults errors.new) }
 {
-    if let Ok(text) = line {
-        tell_line(errors, text.as_str());
+    match line {
+        Ok(text) => tell_line(errors, text.as_str()),
+        Err(_) => Err(Outage::NoMemory),
     }
 }

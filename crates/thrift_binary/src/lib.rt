@@ -1,15 +1,27 @@
 //! Apache Thrift's binary protocol (TBinaryProtocol) over any source and sink of bytes.
 #![tactic(auto)]
 
+mod collections;
 mod fault;
 mod fill;
+mod fixed;
 mod head;
+mod heads;
 mod laws;
+mod limits;
+pub mod numbers;
+mod progress;
 mod reader;
+mod skipping;
+mod spelling;
+mod texts;
 mod writer;
 
 pub use fault::{SendFault, WireFault};
 pub use head::Head;
-pub use laws::{messages_read_one_way, stops_are_no_messages};
+pub use laws::{a_text_reads_one_way, cutting_changes_nothing, no_spelling_begins_another};
+pub use limits::{COUNT_LIMIT, DEPTH_LIMIT, MESSAGE_LIMIT, SESSION_END};
+pub use progress::Progress;
 pub use reader::WireReader;
+pub use spelling::{messages_are_spelled, values_are_spelled};
 pub use writer::WireWriter;

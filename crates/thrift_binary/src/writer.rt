@@ -4,7 +4,8 @@ ghost use Rattle.std.specs.Prelude.{◌≡◌, ◌<◌, ◌≤◌, ◌^◌, ◌+
 ghost use Rattle.hms_outside.specs.Causes.{Rose};
 ghost use Rattle.hms_outside.specs.Told.{Goes, Grew, Sent};
 ghost use Rattle.thrift_binary.specs.Sending.{Gathers};
-ghost use Rattle.thrift_binary.specs.Wire.{field_bytes, head_bytes, int_bytes, text_bytes};
+ghost use Rattle.thrift_binary.specs.Strict.{field_bytes, flag_bytes, head_bytes, list_bytes, map_bytes};
+ghost use Rattle.thrift_binary.specs.Wire.{byte_bytes, int_bytes, long_bytes, short_bytes, text_bytes};
 
 use crate::{Head, SendFault};
 use cat_values::{NoMemory, Text};
@@ -51,6 +52,34 @@ impl WireWriter {
         Ok(())
     }
 
+    fn count(&mut self, count: u32) -> Result<(), NoMemory>
+        requires { count < 2 ^ 31 }
+        ensures { Gathers self.old self.new result (int_bytes (pos count)) }
+    {
+        self.int(count as i32)
+    }
+
+    /// A bool: the byte 1 is true, 0 is false.
+    pub fn flag(&mut self, value: bool) -> Result<(), NoMemory>
+        ensures { Gathers self.old self.new result (flag_bytes value) }
+    {
+        self.code(if value { 1 } else { 0 })
+    }
+
+    /// A number of one byte.
+    pub fn byte(&mut self, value: i8) -> Result<(), NoMemory>
+        ensures { Gathers self.old self.new result (byte_bytes value) }
+    {
+        self.raw(&value.to_be_bytes())
+    }
+
+    /// A number of two bytes.
+    pub fn short(&mut self, value: i16) -> Result<(), NoMemory>
+        ensures { Gathers self.old self.new result (short_bytes value) }
+    {
+        self.raw(&value.to_be_bytes())
+    }
+
     /// A number of four bytes.
     pub fn int(&mut self, value: i32) -> Result<(), NoMemory>
         ensures { Gathers self.old self.new result (int_bytes value) }
@@ -58,7 +87,21 @@ impl WireWriter {
         self.raw(&value.to_be_bytes())
     }
 
-    /// A text.
+    /// A number of eight bytes.
+    pub fn long(&mut self, value: i64) -> Result<(), NoMemory>
+        ensures { Gathers self.old self.new result (long_bytes value) }
+    {
+        self.raw(&value.to_be_bytes())
+    }
+
+    /// The eight bytes of a double, in the order in which they are sent: its sign first.
+    pub fn eight(&mut self, value: [u8; 8]) -> Result<(), NoMemory>
+        ensures { Gathers self.old self.new result value }
+    {
+        self.raw(&value)
+    }
+
+    /// A text: its length in bytes, and its bytes.
     pub fn text(&mut self, value: &Text) -> Result<(), NoMemory>
         ensures { Gathers self.old self.new result (text_bytes value.now) }
     {
@@ -83,20 +126,45 @@ impl WireWriter {
 
     /// The strict head of a message.
     pub fn head(&mut self, head: &Head) -> Result<(), NoMemory>
-        ensures { Gathers self.old self.new result (head_bytes 0 head.now.kind head.now.name head.now.sequence) }
+        ensures { Gathers self.old self.new result (head_bytes head.now) }
     {
-        self.raw(&[128, 1, 0, head.kind])?;
+        self.reply_head(head, head.kind)
+    }
+
+    /// The strict head of a message of this kind that answers the one with this head: it has the
+    /// same name and sequence id.
+    pub fn reply_head(&mut self, head: &Head, kind: u8) -> Result<(), NoMemory>
+        ensures { Gathers self.old self.new result (head_bytes (record { name = head.now.name; kind = kind; sequence = head.now.sequence })) }
+    {
+        self.raw(&[128, 1, 0, kind])?;
         self.text(&head.name)?;
         self.int(head.sequence)
     }
 
-    /// The head of a list: the type of its elements, and how many they are.
+    /// The head of a list or of a set: the type of its elements, and how many they are.
     pub fn list(&mut self, ty: u8, count: u32) -> Result<(), NoMemory>
         requires { count < 2 ^ 31 }
-        ensures { Gathers self.old self.new result (ty ∷ int_bytes (pos count)) }
+        ensures { Gathers self.old self.new result (list_bytes ty count) }
     {
         self.code(ty)?;
-        self.int(count as i32)
+        self.count(count)
+    }
+
+    /// The head of a map: the type of its keys, that of its values, and how many pairs there are.
+    pub fn map(&mut self, key: u8, value: u8, count: u32) -> Result<(), NoMemory>
+        requires { count < 2 ^ 31 }
+        ensures { Gathers self.old self.new result (map_bytes key value count) }
+    {
+        self.code(key)?;
+        self.code(value)?;
+        self.count(count)
+    }
+
+    /// Forgets what is gathered, and keeps its room for the next message.
+    pub fn clear(&mut self)
+        ensures { self.new ≡ [] }
+    {
+        self.out.clear();
     }
 
     /// Writes the gathered message whole, and flushes once. After `Ok` the writer is empty and
@@ -111,7 +179,7 @@ impl WireWriter {
     {
         match send_all(sink, &self.out) {
             Ok(()) => {
-                self.out.clear();
+                self.clear();
                 Ok(())
             }
             Err(Outage::Failed) => Err(SendFault::WriteFault),

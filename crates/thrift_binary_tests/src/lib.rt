@@ -2,4 +2,12 @@
 #![tactic(auto)]
 
 #[cfg(test)]
+mod cases;
+#[cfg(test)]
+mod inputs;
+#[cfg(test)]
+mod reading;
+#[cfg(test)]
+mod telling;
+#[cfg(test)]
 mod tests;

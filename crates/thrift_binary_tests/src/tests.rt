@@ -1,82 +1,10 @@
-//! The wire: what a reader takes, and what a writer gathers.
+//! What a writer gathers and sends.
 
-use cat_values::{Bytes, Text};
-use hms_outside::{MemSink, MemSource};
+use cat_values::Text;
+use hms_outside::MemSink;
 use std::alloc::Global;
 use std::test::Fail;
-use thrift_binary::{
-    Head, SendFault, WireFault, WireReader, WireWriter, messages_read_one_way,
-    stops_are_no_messages,
-};
-
-fn source(alloc: Global, bytes: &[u8]) -> Result<MemSource, Fail> {
-    let bytes = Bytes::from_slice(alloc, bytes)?;
-    Ok(MemSource::new(bytes, Vec::new(alloc)))
-}
-
-// A head, a field, a number, a short number, a text, bytes that are none, and a struct's end.
-const VALUES: &[u8] =
-    b"\x80\x01\x63\x01\x00\x00\x00\x01x\xff\xff\xff\xfe\x08\x00\x02\x00\x00\x00\x07\xff\xfe\x00\x00\x00\x02ok\x00\x00\x00\x01\xff\x00";
-
-#[test]
-fn a_reader_takes_a_head(rt: HostRuntime) -> Result<(), Fail> {
-    let alloc = rt.alloc();
-    let mut source = source(alloc, VALUES)?;
-    let mut reader = WireReader::new(&mut source);
-    let head = reader.head(alloc)?.ok_or("no head")?;
-    assert_eq!(rt; head.name.as_str(), "x");
-    assert_eq!(rt; (head.kind, head.sequence), (1, -2));
-    Ok(())
-}
-
-#[test]
-fn a_reader_takes_values_one_by_one(rt: HostRuntime) -> Result<(), Fail> {
-    let mut source = source(rt.alloc(), &VALUES[13..])?;
-    let mut reader = WireReader::new(&mut source);
-    assert_eq!(rt; reader.field(), Ok(Some((8, 2))));
-    assert_eq!(rt; reader.int(), Ok(7));
-    assert_eq!(rt; reader.short(), Ok(-2));
-    let text = reader.text(rt.alloc())?.ok_or("no text")?;
-    assert_eq!(rt; text.as_str(), "ok");
-    Ok(())
-}
-
-#[test]
-fn a_reader_takes_what_is_no_text_and_the_end(rt: HostRuntime) -> Result<(), Fail> {
-    let mut source = source(rt.alloc(), &VALUES[28..])?;
-    let mut reader = WireReader::new(&mut source);
-    assert!(rt; matches!(reader.text(rt.alloc()), Ok(None)));
-    assert_eq!(rt; reader.field(), Ok(None));
-    assert!(rt; matches!(reader.head(rt.alloc()), Ok(None)));
-    assert_eq!(rt; reader.int(), Err(WireFault::Truncated(6)));
-    Ok(())
-}
-
-#[test]
-fn a_long_text_is_read_in_pieces(rt: HostRuntime) -> Result<(), Fail> {
-    let alloc = rt.alloc();
-    let mut bytes = b"\x00\x00\x75\x30".to_vec(alloc)?;
-    bytes.resize(30_004, b'z')?;
-    let mut source = source(alloc, &bytes)?;
-    let mut reader = WireReader::new(&mut source);
-    let text = reader.text(alloc)?.ok_or("no text")?;
-    assert_eq!(rt; text.len(), 30_000);
-    Ok(())
-}
-
-#[test]
-fn a_message_is_read(rt: HostRuntime) -> Result<(), Fail> {
-    let alloc = rt.alloc();
-    let mut source = source(
-        alloc,
-        b"\x80\x01\x00\x01\x00\x00\x00\x01x\x00\x00\x00\x05\x00",
-    )?;
-    let mut reader = WireReader::new(&mut source);
-    let head = reader.message(alloc)?.ok_or("no message")?;
-    assert_eq!(rt; head.name.as_str(), "x");
-    assert!(rt; matches!(reader.message(alloc), Ok(None)));
-    Ok(())
-}
+use thrift_binary::{Head, SendFault, WireWriter};
 
 // Gathers the head of a reply to `x`.
 fn gather_head(alloc: Global, writer: &mut WireWriter) -> Result<(), Fail> {
@@ -124,10 +52,4 @@ fn a_sink_that_fails_is_told(rt: HostRuntime) -> Result<(), Fail> {
     let mut broken = MemSink::new(alloc, vec![in alloc; 0]?);
     assert_eq!(rt; writer.send(&mut broken), Err(SendFault::WriteFault));
     Ok(())
-}
-
-#[test]
-fn the_laws_are_there() {
-    stops_are_no_messages();
-    messages_read_one_way();
 }

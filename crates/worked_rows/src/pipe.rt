@@ -21,6 +21,19 @@ const UNKNOWN: &[u8] = b"\x80\x01\x00\x01\x00\x00\x00\x01x\x00\x00\x00\x05\x00";
 const UNKNOWN_REPLY: &[u8] =
     b"\x80\x01\x00\x03\x00\x00\x00\x01x\x00\x00\x00\x05\x0b\x00\x01\x00\x00\x00\x0eunknown method\x08\x00\x02\x00\x00\x00\x01\x00";
 
+// The first message in the form without a version.
+const OLD_CALL: &[u8] = b"\x00\x00\x00\x11get_all_databases\x01\x00\x00\x00\x01\x00";
+
+// `getName` from a sender that wants no reply.
+const ONE_WAY: &[u8] = b"\x80\x01\x00\x04\x00\x00\x00\x07getName\x00\x00\x00\x01\x00";
+
+// The method `nope` with structs inside structs, then the first message; and their answers.
+const NESTED: &[u8] =
+    b"\x80\x01\x00\x01\x00\x00\x00\x04nope\x00\x00\x00\x07\x0c\x00\x01\x0c\x00\x01\x08\x00\x01\x00\x00\x00\x05\x00\x00\x00\x80\x01\x00\x01\x00\x00\x00\x11get_all_databases\x00\x00\x00\x01\x00";
+
+const NESTED_REPLY: &[u8] =
+    b"\x80\x01\x00\x03\x00\x00\x00\x04nope\x00\x00\x00\x07\x0b\x00\x01\x00\x00\x00\x0eunknown method\x08\x00\x02\x00\x00\x00\x01\x00\x80\x01\x00\x02\x00\x00\x00\x11get_all_databases\x00\x00\x00\x01\x0f\x00\x00\x0b\x00\x00\x00\x01\x00\x00\x00\x07default\x00";
+
 // What a run of `pipe` leaves.
 #[derive(Drop)]
 struct Ran {
@@ -52,11 +65,20 @@ fn run<K: Sink>(
     .status
 }
 
-fn pipe(alloc: Global, mut source: MemSource, fails: Vec<u64>) -> Result<Ran, Fail> {
-    let words = vec![in alloc; String::from_str(alloc, "pipe")?]?;
-    let mut output = MemSink::new(alloc, fails);
+// Runs these words over a source, with an output that fails at these calls.
+fn run_words(
+    alloc: Global,
+    words: &[&str],
+    mut source: MemSource,
+    fails: &[u64],
+) -> Result<Ran, Fail> {
+    let mut all = Vec::new(alloc);
+    for word in words {
+        all.push(String::from_str(alloc, word)?)?;
+    }
+    let mut output = MemSink::new(alloc, fails.to_vec(alloc)?);
     let mut errors = MemSink::new(alloc, Vec::new(alloc));
-    let status = run(alloc, &words, &mut source, &mut output, &mut errors);
+    let status = run(alloc, &all, &mut source, &mut output, &mut errors);
     Ok(Ran {
         status,
         output,
@@ -66,38 +88,68 @@ fn pipe(alloc: Global, mut source: MemSource, fails: Vec<u64>) -> Result<Ran, Fa
 
 fn pipe_bytes(alloc: Global, input: &[u8]) -> Result<Ran, Fail> {
     let bytes = Bytes::from_slice(alloc, input)?;
-    pipe(
+    run_words(
         alloc,
+        &["pipe"],
         MemSource::new(bytes, Vec::new(alloc)),
-        Vec::new(alloc),
+        &[],
     )
+}
+
+// Whether a run has this status, output and line.
+fn left(ran: &Ran, status: u8, output: &[u8], line: &[u8]) -> bool {
+    ran.status == status && ran.output.bytes() == output && ran.errors.bytes() == line
 }
 
 #[test]
 fn lists_default_in_the_strict_form(rt: HostRuntime) -> Result<(), Fail> {
     let ran = pipe_bytes(rt.alloc(), CALL)?;
-    assert_eq!(rt; ran.status, 0);
-    assert_eq!(rt; ran.output.bytes(), REPLY);
+    assert!(rt; left(&ran, 0, REPLY, b""));
     assert_eq!(rt; ran.output.flushes(), [49].as_slice());
-    assert!(rt; ran.errors.bytes().is_empty());
     Ok(())
 }
 
 #[test]
-fn no_input_gives_no_reply(rt: HostRuntime) -> Result<(), Fail> {
-    let ran = pipe_bytes(rt.alloc(), b"")?;
-    assert_eq!(rt; ran.status, 0);
-    assert!(rt; ran.output.bytes().is_empty());
-    assert!(rt; ran.errors.bytes().is_empty());
+fn messages_in_every_form_are_answered(rt: HostRuntime) -> Result<(), Fail> {
+    let cases: [(&[u8], &[u8]); 5] = [
+        (b"", b""),
+        (UNKNOWN, UNKNOWN_REPLY),
+        (OLD_CALL, REPLY),
+        (ONE_WAY, b""),
+        (NESTED, NESTED_REPLY),
+    ];
+    for (input, output) in cases {
+        let ran = pipe_bytes(rt.alloc(), input)?;
+        assert!(rt; left(&ran, 0, output, b""));
+    }
     Ok(())
 }
 
 #[test]
-fn an_unknown_method_is_answered(rt: HostRuntime) -> Result<(), Fail> {
-    let ran = pipe_bytes(rt.alloc(), UNKNOWN)?;
-    assert_eq!(rt; ran.status, 0);
-    assert_eq!(rt; ran.output.bytes(), UNKNOWN_REPLY);
+fn breaks_of_the_first_message_are_told(rt: HostRuntime) -> Result<(), Fail> {
+    let cases: [(&[u8], &str); 3] = [
+        (b"\x80\x02\x00\x01", "wire: bad 1 at 0\n"),
+        (
+            b"\x80\x01\x00\x01\x01\x00\x00\x01",
+            "wire: too large at 4\n",
+        ),
+        (
+            b"\x80\x01\x00\x01\xff\xff\xff\xffget_all",
+            "wire: bad 3 at 4\n",
+        ),
+    ];
+    for (input, line) in cases {
+        let ran = pipe_bytes(rt.alloc(), input)?;
+        assert!(rt; left(&ran, 7, b"", line.as_bytes()), "{line}");
+    }
     Ok(())
+}
+
+// What is left of a message and these bytes behind it.
+fn pipe_behind(alloc: Global, rest: &[u8]) -> Result<Ran, Fail> {
+    let mut input = CALL.to_vec(alloc)?;
+    input.extend_from_slice(rest)?;
+    pipe_bytes(alloc, &input)
 }
 
 #[test]
@@ -106,8 +158,8 @@ fn messages_before_a_break_are_answered(rt: HostRuntime) -> Result<(), Fail> {
         (b"\x80", "wire: truncated at 31\n"),
         (b"\x80\x02\x00\x01", "wire: bad 1 at 30\n"),
         (
-            b"\x00\x00\x00\x01x\x01\x00\x00\x00\x05\x00",
-            "wire: bad 1 at 30\n",
+            b"\x80\x01\x00\x01\x00\x00\x00\x11get_all_databases\x00\x00\x00\x01",
+            "wire: truncated at 59\n",
         ),
         (b"\x80\x01\x00\x02", "wire: bad 2 at 33\n"),
         (b"\x80\x01\x00\x01\xff\xff\xff\xff", "wire: bad 3 at 34\n"),
@@ -125,7 +177,7 @@ fn messages_before_a_break_are_answered(rt: HostRuntime) -> Result<(), Fail> {
         ),
         (
             b"\x80\x01\x00\x01\x00\x00\x00\x01x\x00\x00\x00\x05\x0b\x00\x01",
-            "wire: bad 4 at 43\n",
+            "wire: truncated at 46\n",
         ),
         (
             b"\x80\x01\x00\x01\x00\x00\x00\x01x\x00\x00\x00\x05\x01",
@@ -133,58 +185,43 @@ fn messages_before_a_break_are_answered(rt: HostRuntime) -> Result<(), Fail> {
         ),
     ];
     for (rest, line) in cases {
-        let mut input = CALL.to_vec(rt.alloc())?;
-        input.extend_from_slice(rest)?;
-        let ran = pipe_bytes(rt.alloc(), &input)?;
-        assert_eq!(rt; ran.status, 7, "{line}");
-        assert_eq!(rt; ran.output.bytes(), REPLY, "{line}");
-        assert_eq!(rt; ran.errors.bytes(), line.as_bytes());
+        let ran = pipe_behind(rt.alloc(), rest)?;
+        assert!(rt; left(&ran, 7, REPLY, line.as_bytes()), "{line}");
+    }
+    Ok(())
+}
+
+// What is left of two messages, of which the source gives so many bytes and then fails.
+fn pipe_stopping(alloc: Global, taken: u64, fails: &[u64]) -> Result<Ran, Fail> {
+    let mut twice = CALL.to_vec(alloc)?;
+    twice.extend_from_slice(CALL)?;
+    let bytes = Bytes::from_slice(alloc, &twice)?;
+    let source = MemSource::stopping(alloc, bytes, taken);
+    run_words(alloc, &["pipe"], source, fails)
+}
+
+#[test]
+fn faults_of_source_and_sink(rt: HostRuntime) -> Result<(), Fail> {
+    let cases: [(u64, &[u64], u8, &[u8], &[u8]); 3] = [
+        (30, &[], 3, REPLY, b"read fault\n"),
+        (60, &[0], 4, b"", b"write fault\n"),
+        (60, &[1], 4, REPLY, b"write fault\n"),
+    ];
+    for (taken, fails, status, output, line) in cases {
+        let ran = pipe_stopping(rt.alloc(), taken, fails)?;
+        assert!(rt; left(&ran, status, output, line));
     }
     Ok(())
 }
 
 #[test]
-fn faults_of_source_and_sink(rt: HostRuntime) -> Result<(), Fail> {
-    let alloc = rt.alloc();
-    let mut twice = CALL.to_vec(alloc)?;
-    twice.extend_from_slice(CALL)?;
-    let bytes = Bytes::from_slice(alloc, &twice)?;
-    let stopped = pipe(
-        alloc,
-        MemSource::stopping(alloc, bytes, 30),
-        Vec::new(alloc),
-    )?;
-    assert_eq!(rt; stopped.status, 3);
-    assert_eq!(rt; stopped.output.bytes(), REPLY);
-    assert_eq!(rt; stopped.errors.bytes(), b"read fault\n".as_slice());
-    let source = MemSource::new(Bytes::from_slice(alloc, CALL)?, Vec::new(alloc));
-    let unwritten = pipe(alloc, source, vec![in alloc; 0]?)?;
-    assert_eq!(rt; unwritten.status, 4);
-    assert!(rt; unwritten.output.bytes().is_empty());
-    assert_eq!(rt; unwritten.errors.bytes(), b"write fault\n".as_slice());
-    let source = MemSource::new(Bytes::from_slice(alloc, CALL)?, Vec::new(alloc));
-    let unflushed = pipe(alloc, source, vec![in alloc; 1]?)?;
-    assert_eq!(rt; unflushed.status, 4);
-    assert_eq!(rt; unflushed.output.bytes(), REPLY);
-    Ok(())
-}
-
-#[test]
 fn other_words_are_refused(rt: HostRuntime) -> Result<(), Fail> {
-    let alloc = rt.alloc();
     let cases: [&[&str]; 4] = [&[], &["pip"], &["pipe", "x"], &["init"]];
     for case in cases {
-        let mut words = Vec::new(alloc);
-        for word in case.iter() {
-            words.push(String::from_str(alloc, word)?)?;
-        }
-        let mut source = MemSource::new(Bytes::from_slice(alloc, CALL)?, Vec::new(alloc));
-        let mut output = MemSink::new(alloc, Vec::new(alloc));
-        let mut errors = MemSink::new(alloc, Vec::new(alloc));
-        let status = run(alloc, &words, &mut source, &mut output, &mut errors);
-        assert_eq!(rt; status, 2);
-        assert!(rt; output.bytes().is_empty());
-        assert_eq!(rt; errors.bytes(), b"usage\n".as_slice());
+        let bytes = Bytes::from_slice(rt.alloc(), CALL)?;
+        let source = MemSource::new(bytes, Vec::new(rt.alloc()));
+        let ran = run_words(rt.alloc(), case, source, &[])?;
+        assert!(rt; left(&ran, 2, b"", b"usage\n"));
     }
     Ok(())
 }

@@ -7,7 +7,7 @@ invariant-loop-self g l = record {
   same_source : l.self.source.ghost_name ≡ l.initial.self.source.ghost_name;
   later : g.S.Source.faults l.initial.self.source.now ≤ g.S.Source.faults l.self.source.now;
   within : vec_len l.bytes ≤ l.n;
-  so_far : Took (g.S.Source.left l.initial.self.source.now) (g.S.Source.left l.self.source.now) l.initial.self.place l.self.place (λ taken. taken ≡ l.bytes.items);
+  so_far : Took (g.S.Source.left l.initial.self.source.now) (g.S.Source.left l.self.source.now) l.initial.self.progress l.self.progress (λ taken. taken ≡ l.bytes.items);
 }
 
 abbrev pub decreases-loop-self : goal.decreases-loop-self

@@ -1,19 +1,21 @@
-use Rattle.std.proofs.Common.{Err, rules, inl, w32}
+use Rattle.std.proofs.Common.{Err, inl, rules, w32}
 use mir.Val.{SFits}
 use Rattle.std.proofs.lemmas.Result.{err_from_is_err_and}
-use Rattle.thrift_binary.specs.Wire.{IsName, StopsName, IsInt, StopsShort, IsNamed, StopsNamed}
-use Rattle.thrift_binary.proofs.Reading.{reads_then, fault_again, named_read}
+use Rattle.thrift_binary.specs.Wire.{IsInt, StopsShort}
+use Rattle.thrift_binary.specs.Messages.{IsName, StopsName, StopsNamed}
+use Rattle.thrift_binary.proofs.Reading.{reads_then, fault_again}
+use Rattle.thrift_binary.proofs.Openers.{named_read}
 use Rattle.thrift_binary.proofs.reader.WireReader.named.Goals as goal
 
 pub returns-in_err-name-clause-reads : goal.returns-in_err-name-clause-reads
 returns-in_err-name-clause-reads g c =
     let p = err_from_is_err_and c.from_residual.result c.from_residual.ensures.1 in
-    rw (p.1, p.2) (fault_again _ _ _ _ c.in_err-name.field-0.0 _ IsNamed _ StopsNamed (λ f bytes h. inl h) c.in_err-name.ensures.reads)
+    rw (p.1, p.2) (fault_again _ _ _ _ c.in_err-name.field-0.0 _ StopsNamed (λ s bytes h. inl h) c.in_err-name.ensures.reads)
 
 pub returns-in_err-sequence-clause-reads : goal.returns-in_err-sequence-clause-reads
 returns-in_err-sequence-clause-reads g c =
     let p = err_from_is_err_and c.from_residual-in_err-sequence.result c.from_residual-in_err-sequence.ensures.1 in
-    rw (p.1, p.2) (fault_again _ _ _ _ c.in_err-sequence.field-0.0 _ IsNamed _ StopsNamed (λ f bytes h. h)
+    rw (p.1, p.2) (fault_again _ _ _ _ c.in_err-sequence.field-0.0 _ StopsNamed (λ s bytes h. h)
     (reads_then IsName StopsName (λ _. IsInt) (λ _. StopsShort 4) _ _ _ _ _ _ c.in_ok-name.name (Err c.in_err-sequence.field-0.0) c.in_ok-name.ensures.reads c.in_err-sequence.ensures.reads))
 
 pub returns-clause-reads : goal.returns-clause-reads

@@ -1,5 +1,5 @@
 use Rattle.thrift_binary.proofs.Reading.{Took-weaker}
-use Rattle.thrift_binary.proofs.Messages.{text_is}
+use Rattle.thrift_binary.proofs.Strings.{text_is}
 use Rattle.thrift_binary.proofs.reader.WireReader.text.Goals as goal
 
 pub returns-clause-reads : goal.returns-clause-reads

@@ -1,0 +1,10 @@
+pub mod Bind
+pub mod Numbers
+pub mod Signs
+pub mod Loops
+pub mod Rising
+pub mod Pairs
+pub mod Composed
+pub mod Tagged
+pub mod Lawful
+pub mod Wholes

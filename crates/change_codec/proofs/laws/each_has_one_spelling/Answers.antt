@@ -1,0 +1,18 @@
+use Rattle.change_codec.proofs.Lawful.{entry-lawful, event-lawful, events-lawful, item-lawful, items-lawful}
+use Rattle.change_codec.proofs.Wholes.{one_spelling}
+use Rattle.change_codec.proofs.laws.each_has_one_spelling.Goals as goal
+
+pub returns-clause-event : goal.returns-clause-event
+returns-clause-event c = one_spelling _ event-lawful
+
+pub returns-clause-events : goal.returns-clause-events
+returns-clause-events c = one_spelling _ events-lawful
+
+pub returns-clause-item : goal.returns-clause-item
+returns-clause-item c = one_spelling _ item-lawful
+
+pub returns-clause-items : goal.returns-clause-items
+returns-clause-items c = one_spelling _ items-lawful
+
+pub returns-clause-entry : goal.returns-clause-entry
+returns-clause-entry c = one_spelling _ entry-lawful

@@ -1,0 +1,17 @@
+use Rattle.change_codec.proofs.Lawful.{entry-lawful, event-lawful, events-lawful, item-lawful, items-lawful}
+use Rattle.change_codec.proofs.laws.each_is_read_again.Goals as goal
+
+pub returns-clause-event : goal.returns-clause-event
+returns-clause-event c = event-lawful.again
+
+pub returns-clause-events : goal.returns-clause-events
+returns-clause-events c = events-lawful.again
+
+pub returns-clause-item : goal.returns-clause-item
+returns-clause-item c = item-lawful.again
+
+pub returns-clause-items : goal.returns-clause-items
+returns-clause-items c = items-lawful.again
+
+pub returns-clause-entry : goal.returns-clause-entry
+returns-clause-entry c = entry-lawful.again

@@ -1,0 +1,4 @@
+pub mod Forms
+pub mod Records
+pub mod Written
+pub mod Whole

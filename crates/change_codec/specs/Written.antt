@@ -1,0 +1,6 @@
+-- What is written.
+use Rattle.std.specs.Prelude.{◌≡◌, ℕ, List, ◌++◌, Result, MatchResult}
+
+-- bytes were added; after an Err maybe others or none, and what was there stays in front
+abbrev pub Gathers : {T E : Type 0} → List ℕ → List ℕ → Result T E → List ℕ → Type 0
+Gathers old new result bytes = MatchResult result (λ _. new ≡ old ++ bytes) (λ _. (more : List ℕ) × (new ≡ old ++ more))

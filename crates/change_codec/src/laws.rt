@@ -1,0 +1,33 @@
+//! Laws of the spellings, each the contract of a function that does nothing.
+
+ghost use Rattle.change_codec.specs.Records.{an_entry, an_item, event};
+ghost use Rattle.change_codec.specs.Forms.{list_of};
+ghost use Rattle.change_codec.specs.Whole.{HasOneSpelling, IsReadAgain, IsSpelled};
+
+/// What was written is read again, whatever follows it.
+pub fn each_is_read_again()
+    ensures event { IsReadAgain event }
+    ensures events { IsReadAgain (list_of event) }
+    ensures item { IsReadAgain an_item }
+    ensures items { IsReadAgain (list_of an_item) }
+    ensures entry { IsReadAgain an_entry }
+{}
+
+/// What is read off the front of bytes is spelled by the bytes that it took.
+pub fn each_is_spelled_as_read()
+    ensures event { IsSpelled event }
+    ensures events { IsSpelled (list_of event) }
+    ensures item { IsSpelled an_item }
+    ensures items { IsSpelled (list_of an_item) }
+    ensures entry { IsSpelled an_entry }
+{}
+
+/// No spelling of a value begins that of another: two values whose spellings stand at the front of
+/// the same bytes are equal.
+pub fn each_has_one_spelling()
+    ensures event { HasOneSpelling event }
+    ensures events { HasOneSpelling (list_of event) }
+    ensures item { HasOneSpelling an_item }
+    ensures items { HasOneSpelling (list_of an_item) }
+    ensures entry { HasOneSpelling an_entry }
+{}

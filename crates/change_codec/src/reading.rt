@@ -1,0 +1,241 @@
+//! Reading values off the front of bytes.
+
+ghost use Rattle.std.specs.Prelude.{◌≡◌, ◌≤◌, ◌-◌, ℕ, List, None, IfOk, length};
+ghost use Rattle.std.specs.Int.{w32, w64};
+ghost use Rattle.cat_values.specs.declared.list_of.TheConstants.{LIST_END};
+ghost use Rattle.change_codec.specs.Forms.{Reading, count_read, flag_read, front_read, last_key, list_read, map_read, number_read, option_read, pairs_read, rises, rising_read, signed_read, text_read, values_read};
+ghost use Rattle.change_codec.specs.Whole.{Gives};
+
+use crate::fault::Stop;
+use cat_types::{LIST_END, ListOf, MapOf, TEXT_LIMIT, Text};
+use std::alloc::Global;
+
+/// A value that can be read off the front of bytes.
+pub trait Get: Drop {
+    /// How it is read.
+    ghost read: { List ℕ → Reading Self };
+
+    /// The value, and the bytes behind it.
+    fn get(alloc: Global, bytes: &[u8]) -> Result<(Self, &[u8]), Stop>
+        ensures { Gives (λ x. (x.0, x.1.now)) result (read bytes.now) };
+}
+
+// So many bytes, and those behind them.
+fn front_of(bytes: &[u8], count: usize) -> Result<(&[u8], &[u8]), Stop>
+    ensures gives { Gives (λ x. (x.0.now, x.1.now)) result (front_read count bytes.now) }
+    ensures count { IfOk result (λ x. length x.0.now ≡ count) }
+{
+    if bytes.len() < count {
+        return Err(Stop::Left(0));
+    }
+    Ok(bytes.split_at(count))
+}
+
+// A number of four bytes, and the bytes behind it.
+#[tactic(auto, unfolding(crate::specs::Forms::number_read))]
+fn four_of(bytes: &[u8]) -> Result<(u32, &[u8]), Stop>
+    ensures { Gives (λ x. (x.0, x.1.now)) result (number_read w32 bytes.now) }
+{
+    if bytes.len() < 4 {
+        return Err(Stop::Left(0));
+    }
+    let (front, rest) = bytes.split_at(4);
+    let number = u32::from_be_bytes([front[0], front[1], front[2], front[3]]);
+    Ok((number, rest))
+}
+
+// A number of eight bytes, and the bytes behind it.
+#[tactic(auto, unfolding(crate::specs::Forms::number_read))]
+fn eight_of(bytes: &[u8]) -> Result<(u64, &[u8]), Stop>
+    ensures { Gives (λ x. (x.0, x.1.now)) result (number_read w64 bytes.now) }
+{
+    if bytes.len() < 8 {
+        return Err(Stop::Left(0));
+    }
+    let (front, rest) = bytes.split_at(8);
+    let number = u64::from_be_bytes([
+        front[0], front[1], front[2], front[3], front[4], front[5], front[6], front[7],
+    ]);
+    Ok((number, rest))
+}
+
+// A length or a count of at most `last`, and the bytes behind it.
+#[tactic(auto, unfolding(crate::specs::Forms::count_read))]
+pub fn count_of(bytes: &[u8], last: usize) -> Result<(usize, &[u8]), Stop>
+    ensures gives { Gives (λ x. (x.0, x.1.now)) result (count_read last bytes.now) }
+    ensures within { IfOk result (λ x. x.0 ≤ last) }
+{
+    let (count, rest) = four_of(bytes)?;
+    let count = count as usize;
+    if count > last {
+        return Err(Stop::Left(bytes.len()));
+    }
+    Ok((count, rest))
+}
+
+impl Get for u64 {
+    ghost read = { number_read w64 };
+
+    fn get(_alloc: Global, bytes: &[u8]) -> Result<(u64, &[u8]), Stop> {
+        eight_of(bytes)
+    }
+}
+
+#[tactic(auto, unfolding(crate::specs::Forms::signed_read))]
+impl Get for i32 {
+    ghost read = { signed_read w32 };
+
+    fn get(_alloc: Global, bytes: &[u8]) -> Result<(i32, &[u8]), Stop> {
+        let (number, rest) = four_of(bytes)?;
+        Ok((number.cast_signed(), rest))
+    }
+}
+
+#[tactic(auto, unfolding(crate::specs::Forms::signed_read))]
+impl Get for i64 {
+    ghost read = { signed_read w64 };
+
+    fn get(_alloc: Global, bytes: &[u8]) -> Result<(i64, &[u8]), Stop> {
+        let (number, rest) = eight_of(bytes)?;
+        Ok((number.cast_signed(), rest))
+    }
+}
+
+#[tactic(auto, unfolding(crate::specs::Forms::flag_read))]
+impl Get for bool {
+    ghost read = { flag_read };
+
+    fn get(_alloc: Global, bytes: &[u8]) -> Result<(bool, &[u8]), Stop> {
+        match bytes {
+            [] => Err(Stop::Left(0)),
+            [0, rest @ ..] => Ok((false, rest)),
+            [1, rest @ ..] => Ok((true, rest)),
+            [_, ..] => Err(Stop::Left(bytes.len())),
+        }
+    }
+}
+
+impl<const N: usize> Get for [u8; N] {
+    ghost read = { front_read N };
+
+    fn get(_alloc: Global, bytes: &[u8]) -> Result<([u8; N], &[u8]), Stop> {
+        let (front, rest) = front_of(bytes, N)?;
+        let mut copied = [0; N];
+        copied.copy_from_slice(front);
+        Ok((copied, rest))
+    }
+}
+
+#[tactic(auto, unfolding(crate::specs::Forms::text_read))]
+impl Get for Text {
+    ghost read = { text_read };
+
+    fn get(alloc: Global, bytes: &[u8]) -> Result<(Text, &[u8]), Stop> {
+        let (count, rest) = count_of(bytes, TEXT_LIMIT)?;
+        let (front, rest) = front_of(rest, count)?;
+        match Text::from_utf8(Vec::from_slice(alloc, front)?) {
+            Some(text) => Ok((text, rest)),
+            None => Err(Stop::Left(bytes.len())),
+        }
+    }
+}
+
+#[tactic(auto, unfolding(crate::specs::Forms::option_read))]
+impl<T: Get> Get for Option<T> {
+    ghost read = { option_read T.read };
+
+    fn get(alloc: Global, bytes: &[u8]) -> Result<(Option<T>, &[u8]), Stop> {
+        match bytes {
+            [] => Err(Stop::Left(0)),
+            [0, rest @ ..] => Ok((None, rest)),
+            [1, rest @ ..] => match T::get(alloc, rest) {
+                Ok((value, rest)) => Ok((Some(value), rest)),
+                Err(stop) => Err(stop),
+            },
+            [_, ..] => Err(Stop::Left(bytes.len())),
+        }
+    }
+}
+
+// So many values, and the bytes behind them.
+fn values_of<T: Get>(alloc: Global, count: usize, bytes: &[u8]) -> Result<(ListOf<T>, &[u8]), Stop>
+    ensures { Gives (λ x. (x.0, x.1.now)) result (values_read T.read count bytes.now) }
+{
+    let mut values = ListOf::new(alloc);
+    let mut rest = bytes;
+    for _ in 0..count {
+        let (value, after) = T::get(alloc, rest)?;
+        values.push(value)?;
+        rest = after;
+    }
+    Ok((values, rest))
+}
+
+#[tactic(auto, unfolding(crate::specs::Forms::list_read))]
+impl<T: Get> Get for ListOf<T> {
+    ghost read = { list_read T.read };
+
+    fn get(alloc: Global, bytes: &[u8]) -> Result<(ListOf<T>, &[u8]), Stop> {
+        let (count, rest) = count_of(bytes, LIST_END - 1)?;
+        values_of(alloc, count, rest)
+    }
+}
+
+// Whether a key is above the last one of a map.
+fn rises<K: Ord, V>(pairs: &MapOf<K, V>, key: &K) -> bool
+    ensures { result ≡ rises K.cmp (last_key pairs.now) key.now }
+{
+    match pairs.last_key() {
+        None => true,
+        Some(before) => before.cmp(key).is_lt(),
+    }
+}
+
+// A key above the last one of a map, and the bytes behind it.
+#[tactic(auto, unfolding(crate::specs::Forms::rising_read))]
+fn key_of<'a, K: Ord + Get, V>(
+    alloc: Global,
+    pairs: &MapOf<K, V>,
+    bytes: &'a [u8],
+) -> Result<(K, &'a [u8]), Stop>
+    ensures { Gives (λ x. (x.0, x.1.now)) result (rising_read K.cmp K.read (last_key pairs.now) bytes.now) }
+{
+    match K::get(alloc, bytes) {
+        Ok((key, rest)) => {
+            if !rises(pairs, &key) {
+                return Err(Stop::Left(bytes.len()));
+            }
+            Ok((key, rest))
+        }
+        Err(stop) => Err(stop),
+    }
+}
+
+// So many pairs with rising keys, and the bytes behind them.
+fn pairs_of<K: Ord + Get, V: Get>(
+    alloc: Global,
+    count: usize,
+    bytes: &[u8],
+) -> Result<(MapOf<K, V>, &[u8]), Stop>
+    ensures { Gives (λ x. (x.0, x.1.now)) result (pairs_read K.cmp K.read V.read count None bytes.now) }
+{
+    let mut pairs = MapOf::new(alloc);
+    let mut rest = bytes;
+    for _ in 0..count {
+        let (key, after) = key_of(alloc, &pairs, rest)?;
+        let (value, after) = V::get(alloc, after)?;
+        pairs.put(key, value)?;
+        rest = after;
+    }
+    Ok((pairs, rest))
+}
+
+#[tactic(auto, unfolding(crate::specs::Forms::map_read))]
+impl<K: Ord + Get, V: Get> Get for MapOf<K, V> {
+    ghost read = { map_read K.cmp K.read V.read };
+
+    fn get(alloc: Global, bytes: &[u8]) -> Result<(MapOf<K, V>, &[u8]), Stop> {
+        let (count, rest) = count_of(bytes, LIST_END - 1)?;
+        pairs_of(alloc, count, rest)
+    }
+}

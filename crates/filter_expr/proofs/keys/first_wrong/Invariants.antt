@@ -1,0 +1,7 @@
+use Rattle.std.proofs.Common.{◌≡◌, drop}
+use Rattle.filter_expr.specs.Keys.{first_wrong}
+use Rattle.filter_expr.specs.Trees.{checks}
+use Rattle.filter_expr.proofs.keys.first_wrong.Given as goal
+
+abbrev pub invariant-loop-step : goal.invariant-loop-step
+invariant-loop-step l = first_wrong l.keys (checks (drop l.step-index l.steps)) ≡ first_wrong l.keys (checks l.steps)

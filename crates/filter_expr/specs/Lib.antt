@@ -1,0 +1,9 @@
+pub mod Grammar
+pub mod Integers
+pub mod Keys
+pub mod Laws
+pub mod Reading
+pub mod Seen
+pub mod Tokens
+pub mod Trees
+pub mod Truth

@@ -1,0 +1,5 @@
+//! Tests of partition filters.
+#![tactic(auto)]
+
+#[cfg(test)]
+mod tests;

@@ -1,0 +1,3 @@
+mod ByTree
+mod Structs
+mod CanBeReplied

@@ -1,0 +1,21 @@
+use Rattle.std.proofs.Common.{◌≡◌, ◌∙◌, Some, ap, sym, rules}
+use Rattle.ms_calls.specs.declared.method.Method.TheVariants as method
+use Rattle.ms_calls.specs.Asked.{asked_by}
+use Rattle.ms_structs.proofs.Getting.{gets_weaker}
+use Rattle.ms_calls.proofs.ByTree.{user_asked, db_asked, name_asked}
+use Rattle.ms_calls.proofs.asking.asked_by.Goals as goal
+
+pub returns-in-Some-SetUgi-clause-reads : goal.returns-in-Some-SetUgi-clause-reads
+returns-in-Some-SetUgi-clause-reads g c =
+    let m : c.args.method ≡ Some method.SetUgi = search rules in
+    gets_weaker _ _ _ _ _ _ _ _ (λ asked bytes h. (h.0, h.1, h.2 ∙ user_asked h.0 ∙ ap (λ x. asked_by x h.0) (sym m))) c.read_arguments.ensures.reads
+
+pub returns-in-Some-CreateDatabase-clause-reads : goal.returns-in-Some-CreateDatabase-clause-reads
+returns-in-Some-CreateDatabase-clause-reads g c =
+    let m : c.args.method ≡ Some method.CreateDatabase = search rules in
+    gets_weaker _ _ _ _ _ _ _ _ (λ asked bytes h. (h.0, h.1, h.2 ∙ db_asked h.0 ∙ ap (λ x. asked_by x h.0) (sym m))) c.read_arguments-in-Some-CreateDatabase.ensures.reads
+
+pub returns-in-Some-GetDatabase-clause-reads : goal.returns-in-Some-GetDatabase-clause-reads
+returns-in-Some-GetDatabase-clause-reads g c =
+    let m : c.args.method ≡ Some method.GetDatabase = search rules in
+    gets_weaker _ _ _ _ _ _ _ _ (λ asked bytes h. (h.0, h.1, h.2 ∙ name_asked h.0 ∙ ap (λ x. asked_by x h.0) (sym m))) c.read_arguments-in-Some-GetDatabase.ensures.reads

@@ -1,0 +1,6 @@
+pub mod Methods
+pub mod Arguments
+pub mod Asked
+pub mod Exceptions
+pub mod Replies
+pub mod Refusals

@@ -1,0 +1,149 @@
+//! Replies to messages.
+
+ghost use Rattle.std.specs.Prelude.{◌≡◌, ◌==◌};
+ghost use Rattle.thrift_binary.specs.Sending.{Gathers};
+ghost use Rattle.thrift_binary.specs.Strict.{fields_bytes, message_bytes, wire_bytes};
+ghost use Rattle.ms_calls.specs.Methods.{method_named};
+ghost use Rattle.ms_calls.specs.Replies.{CanReply, declared_fields, exception_tree, general_fields, one_text, refused_as, reply_fields, reply_head, reply_kind, result_fields};
+
+use crate::exception::{declared_id, general_code};
+use crate::{Method, ResultType, method_named};
+use cat_types::{NoMemory, Reply, Text, Texts};
+use ms_structs::{put_texts, write_database, write_get_all_functions_response};
+use thrift_binary::{Head, WireWriter};
+
+/// Whether the sender of a message wants no reply.
+pub fn is_one_way(head: &Head) -> bool
+    ensures { result ≡ (head.now.kind == 4) }
+{
+    head.kind == 4
+}
+
+/// Gathers the reply to the message with this head, in the strict spelling of Thrift's binary
+/// protocol: a result under field 0, an exception under the id at which the call declares it, or a
+/// TApplicationException in a message of kind 3.
+pub fn put_reply(writer: &mut WireWriter, head: &Head, reply: &Reply) -> Result<(), NoMemory>
+    requires { CanReply (method_named head.now.name) reply.now }
+    ensures { Gathers writer.old writer.new result (message_bytes (reply_head head.now reply.now) (reply_fields (method_named head.now.name) reply.now)) }
+{
+    writer.reply_head(head, reply_kind(reply))?;
+    put_fields(writer, method_named(head.name.as_str()), reply)?;
+    writer.stop()
+}
+
+// The kind of the message that sends a reply.
+fn reply_kind(reply: &Reply) -> u8
+    ensures { result ≡ reply_kind reply.now }
+{
+    match reply {
+        Reply::Refused(number, _) => match general_code(*number) {
+            Some(_) => 3,
+            None => 2,
+        },
+        _ => 2,
+    }
+}
+
+// The fields of a reply.
+fn put_fields(
+    writer: &mut WireWriter,
+    method: Option<Method>,
+    reply: &Reply,
+) -> Result<(), NoMemory>
+    ensures { Gathers writer.old writer.new result (fields_bytes (reply_fields method reply.now)) }
+{
+    match (method, reply) {
+        (method, Reply::Refused(number, text)) => put_refused(
+            writer,
+            text,
+            general_code(*number),
+            declared_id(method, *number),
+        ),
+        (Some(method), result) => put_result(writer, method.result_type(), result),
+        (None, _) => Ok(()),
+    }
+}
+
+// The field of a result.
+fn put_result(
+    writer: &mut WireWriter,
+    result_type: ResultType,
+    reply: &Reply,
+) -> Result<(), NoMemory>
+    ensures { Gathers writer.old writer.new result (fields_bytes (result_fields result_type reply.now)) }
+{
+    match (result_type, reply) {
+        (ResultType::EmptyStruct, Reply::Nothing) => {
+            writer.field(12, 0)?;
+            write_get_all_functions_response(writer)
+        }
+        (ResultType::OneText, Reply::Names(texts)) => put_one_text(writer, texts),
+        (ResultType::TextList, Reply::Names(texts)) => {
+            writer.field(15, 0)?;
+            put_texts(writer, texts.as_slice())
+        }
+        (ResultType::Int, Reply::Number(number)) => {
+            writer.field(8, 0)?;
+            writer.int(*number)
+        }
+        (ResultType::Database, Reply::Db(name, rec)) => {
+            writer.field(12, 0)?;
+            write_database(writer, name, rec)
+        }
+        _ => Ok(()),
+    }
+}
+
+// The one text of a list, under field 0.
+fn put_one_text(writer: &mut WireWriter, texts: &Texts) -> Result<(), NoMemory>
+    ensures { Gathers writer.old writer.new result (fields_bytes (one_text texts.now)) }
+{
+    let [text] = texts.as_slice() else {
+        return Ok(());
+    };
+    writer.field(11, 0)?;
+    writer.text(text)
+}
+
+// The fields of a refusal, by its code where every call may be answered it, or by the id of its exception.
+fn put_refused(
+    writer: &mut WireWriter,
+    text: &Text,
+    code: Option<i32>,
+    id: Option<i16>,
+) -> Result<(), NoMemory>
+    ensures { Gathers writer.old writer.new result (fields_bytes (refused_as text.now code id)) }
+{
+    match (code, id) {
+        (Some(code), _) => put_general(writer, text, code),
+        (None, Some(id)) => put_declared(writer, text, id),
+        (None, None) => Ok(()),
+    }
+}
+
+// A TApplicationException with this text and code.
+fn put_general(writer: &mut WireWriter, text: &Text, code: i32) -> Result<(), NoMemory>
+    ensures { Gathers writer.old writer.new result (fields_bytes (general_fields text.now code)) }
+{
+    writer.field(11, 1)?;
+    writer.text(text)?;
+    writer.field(8, 2)?;
+    writer.int(code)
+}
+
+// An exception with this text, which is declared under this id.
+fn put_declared(writer: &mut WireWriter, text: &Text, id: i16) -> Result<(), NoMemory>
+    ensures { Gathers writer.old writer.new result (fields_bytes (declared_fields text.now id)) }
+{
+    writer.field(12, id)?;
+    put_exception(writer, text)
+}
+
+// The struct of an exception with this text.
+fn put_exception(writer: &mut WireWriter, text: &Text) -> Result<(), NoMemory>
+    ensures { Gathers writer.old writer.new result (wire_bytes 12 (exception_tree text.now)) }
+{
+    writer.field(11, 1)?;
+    writer.text(text)?;
+    writer.stop()
+}

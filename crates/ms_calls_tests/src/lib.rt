@@ -1,0 +1,5 @@
+//! Tests of messages and their replies.
+#![tactic(auto)]
+
+#[cfg(test)]
+mod tests;

@@ -1,0 +1,5 @@
+pub mod Turns
+pub mod Results
+pub mod Answering
+pub mod Sessions
+pub mod Alone

@@ -1,0 +1,48 @@
+use Rattle.std.proofs.Common.{ap, arith, inr, refl, rules, ◌∙◌}
+use Rattle.desk.proofs.Additions.{adds_as, adds_both, adds_none, adds_weaker}
+use Rattle.thrift_binary.specs.declared.progress.Progress.{Progress}
+use Rattle.ms_session.proofs.Sessions.{faulted, nothing_yet, one_more, one_part}
+use Rattle.ms_session.proofs.session.answer_all.Goals as goal
+
+pub loop-head-init : goal.loop-head-init
+loop-head-init g c = record {
+  same_source = search rules;
+  read = omega arith;
+  write = omega arith;
+  clock = omega arith;
+  empty = search rules;
+  unspent = ap (λ (p : Progress). p.fault) c.requires;
+  caller = refl;
+  start = refl;
+  legal = λ was. was;
+  so_far = adds_none _ _ _ _ (nothing_yet _ _ (ap (λ (p : Progress). p.place) c.requires));
+}
+
+pub returns-in-Err-clause-session : goal.returns-in-Err-clause-session
+returns-in-Err-clause-session g c =
+    rw c.end_of.ensures (adds_weaker _ _ _ _ _ _ (λ own so_far. faulted _ _ _ c.loop-head.reader.progress _ own c.in-Err.fault so_far c.loop-head.invariant.unspent c.in-Err.ensures.inside c.in-Err.ensures.reads) c.loop-head.invariant.so_far)
+
+pub returns-in-Err-WriteFault-clause-session : goal.returns-in-Err-WriteFault-clause-session
+returns-in-Err-WriteFault-clause-session g c =
+    adds_both _ _ _ _ _ _ _ _ c.loop-head.invariant.so_far (adds_as _ _ _ _ _ _ c.loop-head.invariant.caller c.in-Err-WriteFault.ensures.answers)
+    (λ xs ys so_far answers. one_part _ _ _ c.loop-head.reader.progress _ xs ys c.in-Ok-Some.head so_far (rw c.in-Ok-Some.field-0-is at c.in-Ok-Some.ensures.reads) answers)
+
+pub returns-in-Err-NoMemory-clause-session : goal.returns-in-Err-NoMemory-clause-session
+returns-in-Err-NoMemory-clause-session g c =
+    adds_both _ _ _ _ _ _ _ _ c.loop-head.invariant.so_far (adds_as _ _ _ _ _ _ c.loop-head.invariant.caller c.in-Err-NoMemory.ensures.answers)
+    (λ xs ys so_far answers. inr (one_part _ _ _ c.loop-head.reader.progress _ xs ys c.in-Ok-Some.head so_far (rw c.in-Ok-Some.field-0-is at c.in-Ok-Some.ensures.reads) answers))
+
+pub loop-head-preserved : goal.loop-head-preserved
+loop-head-preserved g c = record {
+  same_source = search rules;
+  read = omega (arith, c.message.ensures.later);
+  write = omega (arith, c.answer.ensures.later);
+  clock = omega (arith, c.answer.ensures.clock_later);
+  empty = c.in-Ok.ensures.emptied;
+  unspent = c.in-Ok-Some.ensures.unspent;
+  caller = c.answer.ensures.caller ∙ c.loop-head.invariant.caller;
+  start = c.answer.ensures.start ∙ c.loop-head.invariant.start;
+  legal = λ was. c.answer.ensures.legal (c.loop-head.invariant.legal was);
+  so_far = adds_both _ _ _ _ _ _ _ _ c.loop-head.invariant.so_far (adds_as _ _ _ _ _ _ c.loop-head.invariant.caller c.in-Ok.ensures.answers)
+      (λ xs ys so_far answers. one_more _ _ _ c.loop-head.reader.progress _ xs ys c.in-Ok-Some.head so_far (rw c.in-Ok-Some.field-0-is at c.in-Ok-Some.ensures.reads) answers);
+}

@@ -1,0 +1,25 @@
+use Rattle.std.proofs.Common.{◌≡◌, ◌-◌, ◌≤◌, [], None}
+use Rattle.desk.specs.Adds.{Adds}
+use Rattle.desk.specs.History.{Legal}
+use Rattle.thrift_binary.specs.declared.limits.TheConstants.{SESSION_END}
+use Rattle.ms_session.proofs.Sessions.{SoFar}
+use Rattle.ms_session.proofs.session.answer_all.Given as goal
+
+abbrev pub invariant-loop-head : goal.invariant-loop-head
+invariant-loop-head g l = record {
+  same_source : l.reader.source.ghost_name ≡ l.initial.reader.source.ghost_name;
+  read : g.S.Source.faults l.initial.reader.source.now ≤ g.S.Source.faults l.reader.source.now;
+  write : g.K.Sink.faults l.initial.sink ≤ g.K.Sink.faults l.sink;
+  clock : g.C.Clock.faults l.initial.clock ≤ g.C.Clock.faults l.clock;
+  empty : l.writer ≡ [];
+  unspent : l.reader.progress.fault ≡ None;
+  caller : g.D.Desk.caller l.desk ≡ g.D.Desk.caller l.initial.desk;
+  start : g.D.Desk.start l.desk ≡ g.D.Desk.start l.initial.desk;
+  legal : Legal (g.D.Desk.start l.initial.desk) (g.D.Desk.history l.initial.desk) → Legal (g.D.Desk.start l.desk) (g.D.Desk.history l.desk);
+  so_far : Adds g.D.Desk.alone (g.D.Desk.caller l.initial.desk) (g.D.Desk.history l.initial.desk) (g.D.Desk.history l.desk) (λ own.
+      SoFar (record { left = g.S.Source.left l.initial.reader.source.now; held = g.K.Sink.held l.initial.sink; clock = g.C.Clock.moments l.initial.clock })
+      (record { left = g.S.Source.left l.reader.source.now; held = g.K.Sink.held l.sink; clock = g.C.Clock.moments l.clock }) l.reader.progress.place own);
+}
+
+abbrev pub decreases-loop-head : goal.decreases-loop-head
+decreases-loop-head g l = SESSION_END - l.reader.progress.place

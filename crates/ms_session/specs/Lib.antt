@@ -1,0 +1,4 @@
+pub mod Replies
+pub mod Turns
+pub mod Session
+pub mod Laws

@@ -1,0 +1,66 @@
+-- What a session took off its source, gave to its sink, and did at its desk.
+use Rattle.std.specs.Prelude.{◌≡◌, ◌≢◌, ℕ, ◌≤◌, ◌⊎◌, List, [], ◌∷◌, ◌++◌, length, Option}
+use Rattle.std.specs.Io.KnownBytes.{Consumes, IsAtEnd}
+use Rattle.hms_outside.specs.Told.{Goes, Held}
+use Rattle.desk.specs.History.{Entry}
+use Rattle.thrift_binary.specs.declared.fault.WireFault.{WireFault}
+use Rattle.thrift_binary.specs.declared.fault.WireFault.TheVariants as fault
+use Rattle.thrift_binary.specs.Messages.{Asks, StopsMessage, Ends, Bad_at, Large_at, Truncated as TruncatedAt}
+use Rattle.thrift_binary.specs.Taking.{Cut, room_at}
+use Rattle.ms_session.specs.Turns.{Carried, Replied, RepliedPart, Turn, replies_of, turn_bytes}
+use Rattle.ms_session.specs.declared.end.End.{End}
+use Rattle.ms_session.specs.declared.end.End.TheVariants.{Done, Truncated, BadWire, TooLarge, ReadFault, WriteFault, NoMemory}
+
+-- what a session meets outside, at its beginning and at its end: what its source has left, what its sink holds, and the moments that its clock will answer, as far as each is known
+pub record Met : Type 0 where
+  pub left : Option (List ℕ)
+  pub held : Option Held
+  pub clock : Option (List ℕ)
+
+-- what the source lost is messages that were carried out and answered whole, and a rest, which begins at this place; nothing else was written
+pub record Served (old new : Met) (entries : List Entry) (Rest : ℕ → List ℕ → Type 0) : Type 0 where
+  pub turns : List Turn
+  pub taken : List ℕ
+  pub rest : List ℕ
+  pub lost : Consumes old.left new.left (taken ++ rest)
+  pub carried : Carried turns taken old.clock new.clock entries
+  pub replied : Goes (Replied (replies_of turns)) old.held new.held
+  pub behind : Rest (length taken) rest
+
+-- what the source lost is messages that were carried out; the last of them wants a reply and was not answered whole, and all before it were
+pub record Interrupted (old new : Met) (entries : List Entry) : Type 0 where
+  pub turns : List Turn
+  pub last : Turn
+  pub taken : List ℕ
+  pub lost : Consumes old.left new.left taken
+  pub carried : Carried (turns ++ last ∷ []) taken old.clock new.clock entries
+  pub wanted : last.message.head.kind ≢ 4
+  pub replied : Goes (RepliedPart (replies_of turns) (turn_bytes last)) old.held new.held
+
+-- the rest is a front of a message, or empty, and within the bytes that a message may have at this place
+abbrev pub IsFront : ℕ → List ℕ → Type 0
+IsFront at rest = StopsMessage Asks Cut rest × (length rest ≤ room_at at)
+
+-- how a session ended that had these entries of its caller
+abbrev pub Session : Met → Met → List Entry → End → Type 0
+-- the whole input is messages
+Session old new entries Done = Served old new entries (λ _ rest. (rest ≡ []) × IsAtEnd new.left)
+-- the input ends behind the messages, inside another, at this place
+Session old new entries (Truncated place) = Served old new entries (λ at rest. Ends Asks at rest (TruncatedAt place) × IsAtEnd new.left)
+-- behind the messages the input goes on as no message does, for the cause with this code, at this place; whatever follows what was taken changes nothing
+Session old new entries (BadWire code place) = Served old new entries (λ at rest. Ends Asks at rest (Bad_at code place))
+-- what begins at this place is too large
+Session old new entries (TooLarge place) = Served old new entries (λ at rest. Ends Asks at rest (Large_at place))
+-- no message that was taken whole was left unanswered
+Session old new entries ReadFault = Served old new entries IsFront
+-- nothing was carried out behind the reply that could not be written
+Session old new entries WriteFault = Interrupted old new entries
+Session old new entries NoMemory = Served old new entries IsFront ⊎ Interrupted old new entries
+
+-- the end that a fault of the reader makes
+abbrev pub end_of_fault : WireFault → End
+end_of_fault (fault.Truncated place) = Truncated place
+end_of_fault (fault.BadWire code place) = BadWire code place
+end_of_fault (fault.TooLarge place) = TooLarge place
+end_of_fault fault.ReadFault = ReadFault
+end_of_fault fault.NoMemory = NoMemory

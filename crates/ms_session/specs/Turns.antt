@@ -1,0 +1,112 @@
+-- How one message is carried out at a desk, and how many are, one by one.
+use Rattle.std.specs.Prelude.{◌≡◌, ◌≢◌, ℕ, ◌+◌, ◌⊎◌, List, [], ◌∷◌, ◌++◌, length, map, take, Option, Result, MatchResult}
+use Rattle.std.specs.List.{AllByRecursion, concat, flat_map}
+use Rattle.hms_outside.specs.Clocks.{Ticks}
+use Rattle.hms_outside.specs.Told.{Goes, Grew, Held, Same}
+use Rattle.cat_types.specs.declared.replies.Reply.{Reply}
+use Rattle.cat_types.specs.declared.steps.Answer.{Answer}
+use Rattle.cat_types.specs.declared.steps.Answer.TheVariants as answer
+use Rattle.cat_types.specs.declared.steps.Step.{Step}
+use Rattle.cat_types.specs.declared.steps.Step.TheVariants as step
+use Rattle.desk.specs.History.{Entry}
+use Rattle.thrift_binary.specs.declared.head.Head.{Head}
+use Rattle.thrift_binary.specs.Messages.{Message, Asks, AreMessages}
+use Rattle.ms_calls.specs.Refusals.{out_of_memory, store_fault, unknown_method}
+use Rattle.ms_session.specs.Replies.{asked_by, asked_of, reply_bytes, sent_for}
+use Rattle.ms_session.specs.declared.asking.Asked.{Asked}
+use Rattle.ms_session.specs.declared.asking.Asked.TheVariants.{Client, Unknown}
+
+-- ---- one message
+
+-- the reply that a desk's answer makes
+abbrev pub reply_to : Answer → Reply
+reply_to (answer.Reply reply) = reply
+reply_to answer.StoreFault = store_fault
+reply_to answer.NoMemory = out_of_memory
+
+-- the entries of the caller for what a message asks, and the reply that is due: a call is one step, and its answer makes the reply; what nobody knows is no step
+abbrev pub Due : Asked → List Entry → Reply → Type 0
+Due (Client call) entries reply = (e : Entry) × (moment : ℕ) × (entries ≡ e ∷ []) × (e.0.step ≡ step.Client call moment) × (reply ≡ reply_to e.1.answer)
+Due Unknown entries reply = (entries ≡ []) × (reply ≡ unknown_method)
+
+-- a message that was carried out, the caller's entries for it, and its reply
+pub record Turn : Type 0 where
+  pub message : Message
+  pub entries : List Entry
+  pub reply : Reply
+
+-- the entries are those of what the message asks, and the reply is the one that is due, or want of memory in its place
+abbrev pub IsTurn : Turn → Type 0
+IsTurn turn = (due : Reply) × Due (asked_of turn.message) turn.entries due × ((turn.reply ≡ due) ⊎ (turn.reply ≡ out_of_memory))
+
+-- the bytes of its reply
+abbrev pub turn_bytes : Turn → List ℕ
+turn_bytes turn = reply_bytes turn.message.head turn.reply
+
+-- the bytes of each reply that was sent: messages that want no reply have none
+abbrev pub replies_of : List Turn → List (List ℕ)
+replies_of turns = flat_map (λ turn. sent_for turn.message.head turn.reply) turns
+
+-- ---- the clock
+
+-- the moments that entries were taken at
+abbrev pub moment_of : Step → ℕ
+moment_of (step.Client call moment) = moment
+
+abbrev pub moments_of : List Entry → List ℕ
+moments_of entries = map (λ e. moment_of e.0.step) entries
+
+-- the clock was asked for these moments in order, and for no others
+abbrev pub Timed : List ℕ → Option (List ℕ) → Option (List ℕ) → Type 0
+Timed [] old new = Goes Same old new
+Timed (moment ∷ moments) old new = (between : Option (List ℕ)) × Ticks old between moment × Timed moments between new
+
+-- ---- replies
+
+-- how many bytes a sink held after each of these replies
+abbrev pub ends_of : ℕ → List (List ℕ) → List ℕ
+ends_of start [] = []
+ends_of start (reply ∷ replies) = (start + length reply) ∷ ends_of (start + length reply) replies
+
+-- these replies were added whole and in order, each with a flush behind it, and nothing else
+pub record Replied (replies : List (List ℕ)) (old new : Held) : Type 0 where
+  pub bytes_grew : new.bytes ≡ old.bytes ++ concat replies
+  pub flushes_grew : new.flushes ≡ old.flushes ++ ends_of (length old.bytes) replies
+
+-- ---- one message and its reply
+
+-- a front of these bytes was added, and nothing was flushed
+abbrev pub GrewPart : List ℕ → Held → Held → Type 0
+GrewPart bytes old new = (count : ℕ) × Grew (take count bytes) old new
+
+-- the reply was sent whole, where the message wants one
+abbrev pub Replies : Head → Reply → Option Held → Option Held → Type 0
+Replies head reply held held' = Goes (Replied (sent_for head reply)) held held'
+
+-- the message wants a reply, and a front of it was written
+abbrev pub Begins : Head → Reply → Option Held → Option Held → Type 0
+Begins head reply held held' = (head.kind ≢ 4) × Goes (GrewPart (reply_bytes head reply)) held held'
+
+-- a message with this head was carried out with these entries, and this became of its reply
+abbrev pub AnswersBy : (Head → Reply → Option Held → Option Held → Type 0) → Head → List Entry → Option (List ℕ) → Option (List ℕ) → Option Held → Option Held → Type 0
+AnswersBy Went head entries clock clock' held held' =
+    (due reply : Reply) × Due (asked_by head.name) entries due × ((reply ≡ due) ⊎ (reply ≡ out_of_memory)) × Timed (moments_of entries) clock clock' × Went head reply held held'
+
+-- a message was carried out, and its reply was sent whole, or a front of it where the sending was refused
+abbrev pub Answers : {T E : Type 0} → Head → List Entry → Option (List ℕ) → Option (List ℕ) → Option Held → Option Held → Result T E → Type 0
+Answers head entries clock clock' held held' result = MatchResult result (λ _. AnswersBy Replies head entries clock clock' held held') (λ _. AnswersBy Begins head entries clock clock' held held')
+
+-- ---- many messages
+
+-- messages of these bytes were carried out one by one: the caller's entries are theirs in order, at the moments that the clock answered
+pub record Carried (turns : List Turn) (bytes : List ℕ) (clock clock' : Option (List ℕ)) (entries : List Entry) : Type 0 where
+  pub spelled : AreMessages Asks 0 (map (λ turn. turn.message) turns) bytes
+  pub each : AllByRecursion IsTurn turns
+  pub own : entries ≡ flat_map (λ turn. turn.entries) turns
+  pub moments : Timed (moments_of entries) clock clock'
+
+-- the same, and behind them a front of one more reply, without a flush
+pub record RepliedPart (replies : List (List ℕ)) (last : List ℕ) (old new : Held) : Type 0 where
+  pub between : Held
+  pub whole : Replied replies old between
+  pub part : GrewPart last between new

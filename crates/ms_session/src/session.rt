@@ -1,0 +1,130 @@
+//! One session: messages in, replies out.
+
+ghost use Rattle.std.specs.Prelude.{◌≡◌, ◌≤◌, [], ℕ, take, IsErrOf, OnOk};
+ghost use Rattle.hms_outside.specs.Causes.{Rose};
+ghost use Rattle.desk.specs.Adds.{Adds};
+ghost use Rattle.desk.specs.History.{Legal};
+ghost use Rattle.thrift_binary.specs.Taking.{start};
+ghost use Rattle.ms_session.specs.Session.{Session, end_of_fault};
+ghost use Rattle.ms_session.specs.Turns.{Answers};
+
+use crate::End;
+use crate::carrying::carry_out;
+use crate::reply::gather_reply;
+use desk::Desk;
+use hms_outside::{Clock, Folder, Sink, Source};
+use ms_calls::is_one_way;
+use std::alloc::Global;
+use thrift_binary::{Head, SendFault, WireFault, WireReader, WireWriter};
+
+/// Carries out each message of the source at the desk, and answers it on the sink, unless it wants no
+/// reply. A call is one step of the desk at the clock's next moment; other callers may take any turns
+/// before it.
+///
+/// Where memory is refused after a message was read, its reply says so, and the session goes on.
+/// Where it is refused while a message is read, or while that reply is made or written, or where
+/// the sink refuses it, the session ends. Nothing is carried out behind a reply that could not be
+/// written. The folder is not used yet.
+pub fn serve_session<S: Source, K: Sink, D: Desk, F: Folder, C: Clock>(
+    alloc: Global,
+    source: &mut S,
+    sink: &mut K,
+    desk: &mut D,
+    _folder: &mut F,
+    clock: &mut C,
+) -> End
+    ensures session { Adds D.alone (D.caller desk.old) (D.history desk.old) (D.history desk.new) (λ own.
+        Session (record { left = S.left source.old; held = K.held sink.old; clock = C.moments clock.old }) (record { left = S.left source.new; held = K.held sink.new; clock = C.moments clock.new }) own result) }
+    ensures caller { D.caller desk.new ≡ D.caller desk.old }
+    ensures start { D.start desk.new ≡ D.start desk.old }
+    ensures legal { Legal (D.start desk.old) (D.history desk.old) → Legal (D.start desk.new) (D.history desk.new) }
+    ensures source_later { S.faults source.old ≤ S.faults source.new }
+    ensures sink_later { K.faults sink.old ≤ K.faults sink.new }
+    ensures clock_later { C.faults clock.old ≤ C.faults clock.new }
+    ensures read { result ≡ End.ReadFault → Rose (S.faults source.old) (S.faults source.new) }
+    ensures write { result ≡ End.WriteFault → Rose (K.faults sink.old) (K.faults sink.new) }
+    ensures folder { _folder.new ≡ _folder.old }
+{
+    let mut reader = WireReader::new(source);
+    answer_all(alloc, &mut reader, sink, desk, clock)
+}
+
+// Answers each message that the reader finds.
+fn answer_all<S: Source, K: Sink, D: Desk, C: Clock>(
+    alloc: Global,
+    reader: &mut WireReader<'_, S>,
+    sink: &mut K,
+    desk: &mut D,
+    clock: &mut C,
+) -> End
+    requires { reader.old.progress ≡ start }
+    ensures same_source { reader.new.source.ghost_name ≡ reader.old.source.ghost_name }
+    ensures session { Adds D.alone (D.caller desk.old) (D.history desk.old) (D.history desk.new) (λ own.
+        Session (record { left = S.left reader.old.source.now; held = K.held sink.old; clock = C.moments clock.old }) (record { left = S.left reader.new.source.now; held = K.held sink.new; clock = C.moments clock.new }) own result) }
+    ensures caller { D.caller desk.new ≡ D.caller desk.old }
+    ensures start { D.start desk.new ≡ D.start desk.old }
+    ensures legal { Legal (D.start desk.old) (D.history desk.old) → Legal (D.start desk.new) (D.history desk.new) }
+    ensures source_later { S.faults reader.old.source.now ≤ S.faults reader.new.source.now }
+    ensures sink_later { K.faults sink.old ≤ K.faults sink.new }
+    ensures clock_later { C.faults clock.old ≤ C.faults clock.new }
+    ensures read { result ≡ End.ReadFault → Rose (S.faults reader.old.source.now) (S.faults reader.new.source.now) }
+    ensures write { result ≡ End.WriteFault → Rose (K.faults sink.old) (K.faults sink.new) }
+{
+    let mut writer = WireWriter::new(alloc);
+    loop {
+        let head = match reader.message(alloc) {
+            Ok(Some(head)) => head,
+            Ok(None) => return End::Done,
+            Err(fault) => return end_of(fault),
+        };
+        match answer(alloc, &head, &mut writer, sink, desk, clock) {
+            Ok(()) => {}
+            Err(SendFault::WriteFault) => return End::WriteFault,
+            Err(SendFault::NoMemory) => return End::NoMemory,
+        }
+    }
+}
+
+// The end that a fault of the reader makes.
+fn end_of(fault: WireFault) -> End
+    ensures { result ≡ end_of_fault fault }
+{
+    match fault {
+        WireFault::Truncated(place) => End::Truncated(place),
+        WireFault::BadWire(code, place) => End::BadWire(code, place),
+        WireFault::TooLarge(place) => End::TooLarge(place),
+        WireFault::ReadFault => End::ReadFault,
+        WireFault::NoMemory => End::NoMemory,
+    }
+}
+
+// Carries out one message, and answers it, unless it wants no reply.
+fn answer<K: Sink, D: Desk, C: Clock>(
+    alloc: Global,
+    head: &Head,
+    writer: &mut WireWriter,
+    sink: &mut K,
+    desk: &mut D,
+    clock: &mut C,
+) -> Result<(), SendFault>
+    requires { writer.old ≡ [] }
+    ensures emptied { OnOk result (writer.new ≡ []) }
+    ensures answers { Adds D.alone (D.caller desk.old) (D.history desk.old) (D.history desk.new) (λ own.
+        Answers head.now own (C.moments clock.old) (C.moments clock.new) (K.held sink.old) (K.held sink.new) result) }
+    ensures caller { D.caller desk.new ≡ D.caller desk.old }
+    ensures start { D.start desk.new ≡ D.start desk.old }
+    ensures legal { Legal (D.start desk.old) (D.history desk.old) → Legal (D.start desk.new) (D.history desk.new) }
+    ensures later { K.faults sink.old ≤ K.faults sink.new }
+    ensures clock_later { C.faults clock.old ≤ C.faults clock.new }
+    ensures cause { IsErrOf result SendFault.WriteFault → Rose (K.faults sink.old) (K.faults sink.new) }
+{
+    let due = carry_out(alloc, head, desk, clock);
+    if is_one_way(head) {
+        drop(due);
+        return Ok(());
+    }
+    match gather_reply(alloc, head, due, writer) {
+        Ok(()) => writer.send(sink),
+        Err(NoMemory) => Err(SendFault::NoMemory),
+    }
+}

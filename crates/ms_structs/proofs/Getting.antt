@@ -1,0 +1,128 @@
+-- Values that are read one behind another, and kept.
+use Rattle.std.proofs.Common.{◌≡◌, ℕ, ◌+◌, ◌-◌, ◌<◌, ◌≤◌, List, [], ◌++◌, length, Option, Some, None, Result, Ok, Err, sym, ap, ◌∙◌, subst, arith, inl, inr, zero, suc, add-zero, length-append, ◌⊎◌}
+use Rattle.std.specs.Bool.{⊤}
+use Rattle.std.specs.Io.KnownBytes.{Consumes}
+use Rattle.std.proofs.KnownBytes.{Consumes-trans}
+use Rattle.thrift_binary.specs.declared.fault.WireFault.{WireFault}
+use Rattle.thrift_binary.specs.declared.limits.TheConstants.{DEPTH_LIMIT}
+use Rattle.thrift_binary.specs.declared.progress.Progress.{Progress}
+use Rattle.thrift_binary.specs.declared.fault.WireFault.TheVariants.{NoMemory}
+use Rattle.thrift_binary.specs.Taking.{Stop, Large, moved, advanced, opened, closed, Took, Tells, Halted, Opens, Reads}
+use Rattle.thrift_binary.specs.Wire.{IsNested, StopsWire}
+use Rattle.ms_structs.specs.Getting.{Gets, Refused}
+use Rattle.thrift_binary.proofs.Reading.{Faulted, Took-weaker, Took-room, Took-place, Took-limit, moved-zero, tells_behind, fault_behind, fault_again}
+
+-- how a value that is read and kept fails, with a fault that is told at one of its stops
+abbrev pub Fails : Option (List ℕ) → Option (List ℕ) → Progress → Progress → WireFault → (Stop → List ℕ → Type 0) → Type 0
+Fails a b p q e Q = Faulted a b p q e Q ⊎ Refused a b p q e
+
+-- what was read is kept
+pub gets : {T : Type 0} (a b : Option (List ℕ)) (p q : Progress) (r : Result T WireFault) (P : T → List ℕ → Type 0) (Q : Stop → List ℕ → Type 0) → Reads a b p q r P Q → Gets a b p q r P Q
+gets a b p q (Ok v) P Q reads = reads
+gets a b p q (Err e) P Q reads = inl reads
+
+pub gets_weaker : {T : Type 0} (a b : Option (List ℕ)) (p q : Progress) (r : Result T WireFault) (P P' : T → List ℕ → Type 0) (Q : Stop → List ℕ → Type 0) → ((v : T) (bytes : List ℕ) → P v bytes → P' v bytes) → Gets a b p q r P Q → Gets a b p q r P' Q
+gets_weaker a b p q (Ok v) P P' Q weaker h = Took-weaker a b p q (P v) (P' v) (weaker v) h
+gets_weaker a b p q (Err e) P P' Q weaker (inl h) = inl h
+gets_weaker a b p q (Err e) P P' Q weaker (inr h) = inr h
+
+-- a fault of one value is a fault of whatever else was to be read, where its stop is one of that
+pub fails_again : (a b : Option (List ℕ)) (p q : Progress) (e : WireFault) (Q Q' : Stop → List ℕ → Type 0) → ((s : Stop) (bytes : List ℕ) → Q s bytes → Q' s bytes) → Fails a b p q e Q → Fails a b p q e Q'
+fails_again a b p q e Q Q' weaker (inl h) = inl (fault_again a b p q e Q Q' weaker h)
+fails_again a b p q e Q Q' weaker (inr h) = inr h
+
+refused_behind : (a b c : Option (List ℕ)) (p q r : Progress) (e : WireFault) (P : List ℕ → Type 0) → Took a b p q P → Refused b c q r e → Refused a c p r e
+refused_behind a b c p q r e P first h = record {
+  bytes = first.bytes ++ h.bytes;
+  consumed = Consumes-trans a b c first.bytes h.bytes first.consumed h.consumed;
+  unspent = first.unspent;
+  within = omega (arith, h.within, Took-place a b p q P first, Took-limit a b p q P first, length-append first.bytes h.bytes);
+  memory = h.memory;
+  spent = h.spent;
+}
+
+-- a fault behind bytes that were taken
+pub fails_behind : (a b c : Option (List ℕ)) (p q r : Progress) (e : WireFault) (P : List ℕ → Type 0) (Q R : Stop → List ℕ → Type 0) → ((front rest : List ℕ) (s : Stop) → P front → Q s rest → R (moved (length front) s) (front ++ rest)) → Took a b p q P → Fails b c q r e Q → Fails a c p r e R
+fails_behind a b c p q r e P Q R joined first (inl h) = inl (fault_behind a b c p q r e P Q R joined first h)
+fails_behind a b c p q r e P Q R joined first (inr h) = inr (refused_behind a b c p q r e P first h)
+
+-- memory was refused behind bytes that were taken
+pub refused_there : (a b b' : Option (List ℕ)) (p q q' : Progress) (e : WireFault) (P : List ℕ → Type 0) (R : Stop → List ℕ → Type 0) → Took a b p q P → b' ≡ b → q'.fault ≡ Some NoMemory → e ≡ NoMemory → Fails a b' p q' e R
+refused_there a b b' p q q' e P R took same spent memory = inr (record {
+  bytes = took.bytes;
+  consumed = subst (λ x. Consumes a x took.bytes) (sym same) took.consumed;
+  unspent = took.unspent;
+  within = took.within;
+  memory = memory;
+  spent = spent;
+})
+
+-- ---- inside one struct or collection more
+
+-- one more is open, and nothing was taken
+abbrev pub Opened : Option (List ℕ) → Option (List ℕ) → Progress → Progress → Type 0
+Opened a b p q = Consumes a b [] × (p.fault ≡ None) × (1 ≤ p.room) × (q ≡ opened p)
+
+pub opened-unspent : (a b : Option (List ℕ)) (p q : Progress) → Opened a b p q → q.fault ≡ None
+opened-unspent a b p q o = ap (λ (x : Progress). x.fault) o.3 ∙ o.1
+
+pub opened-room : (a b : Option (List ℕ)) (p q : Progress) → Opened a b p q → q.room ≡ p.room - 1
+opened-room a b p q o = ap (λ (x : Progress). x.room) o.3
+
+shut : (p q : Progress) (n : ℕ) → 1 ≤ p.room → q ≡ advanced n (opened p) → closed q ≡ advanced n p
+shut p q n some is =
+    let room : p.room - 1 + 1 ≡ p.room = omega (arith, some) in
+    ap closed is ∙ ap (λ m. record { place = p.place + n; limit = p.limit; room = m; fault = p.fault }) room
+
+-- what was taken inside was taken
+pub nested_took : (a b c c' : Option (List ℕ)) (p q r r' : Progress) (P R : List ℕ → Type 0) → ((bytes : List ℕ) → P bytes → R bytes) → Opened a b p q → Took b c q r P → c' ≡ c → r' ≡ closed r → Took a c' p r' R
+nested_took a b c c' p q r r' P R weaker o took same is =
+    let place : q.place ≡ p.place = ap (λ (x : Progress). x.place) o.3 in
+    let limit : q.limit ≡ p.limit = ap (λ (x : Progress). x.limit) o.3 in
+    record {
+      bytes = took.bytes;
+      consumed = subst (λ x. Consumes a x took.bytes) (sym same) (Consumes-trans a b c [] took.bytes o.0 took.consumed);
+      unspent = o.1;
+      progress = is ∙ shut p r (length took.bytes) o.2 (took.progress ∙ ap (advanced (length took.bytes)) o.3);
+      within = omega (arith, took.within, place, limit);
+      holds = weaker took.bytes took.holds;
+    }
+
+nested_tells : (a b c : Option (List ℕ)) (place limit : ℕ) (bytes : List ℕ) (s : Stop) (e : WireFault) → Consumes a b [] → Tells b c place limit bytes s e → Tells a c place limit bytes s e
+nested_tells a b c place limit bytes s e none tells =
+    subst (λ x. Tells a c place limit bytes x e) (moved-zero s) (tells_behind a b c place limit [] bytes s e none (subst (λ n. Tells b c n limit bytes s e) (sym (add-zero place)) tells))
+
+nested_halted : (a b c : Option (List ℕ)) (p q r : Progress) (e : WireFault) (Q R : Stop → List ℕ → Type 0) → ((s : Stop) (bytes : List ℕ) → Q s bytes → R s bytes) → Opened a b p q → Halted b c q r e Q → Halted a c p r e R
+nested_halted a b c p q r e Q R weaker o h = record {
+  bytes = h.bytes;
+  stop = h.stop;
+  unspent = o.1;
+  spent = h.spent;
+  holds = weaker h.stop h.bytes h.holds;
+  tells = nested_tells a b c p.place p.limit h.bytes h.stop e o.0 (subst (λ x. Tells b c x.place x.limit h.bytes h.stop e) o.3 h.tells);
+}
+
+nested_refused : (a b c : Option (List ℕ)) (p q r : Progress) (e : WireFault) → Opened a b p q → Refused b c q r e → Refused a c p r e
+nested_refused a b c p q r e o h =
+    let place : q.place ≡ p.place = ap (λ (x : Progress). x.place) o.3 in
+    let limit : q.limit ≡ p.limit = ap (λ (x : Progress). x.limit) o.3 in
+    record { bytes = h.bytes; consumed = Consumes-trans a b c [] h.bytes o.0 h.consumed; unspent = o.1; within = omega (arith, h.within, place, limit); memory = h.memory; spent = h.spent }
+
+-- a fault inside is a fault of the struct or collection
+pub nested_stop : (a b c : Option (List ℕ)) (p q r : Progress) (e : WireFault) (Q R : Stop → List ℕ → Type 0) → ((s : Stop) (bytes : List ℕ) → Q s bytes → R s bytes) → Opened a b p q → Fails b c q r e Q → Fails a c p r e R
+nested_stop a b c p q r e Q R weaker o (inl (inl h)) = inl (inl (nested_halted a b c p q r e Q R weaker o h))
+nested_stop a b c p q r e Q R weaker o (inl (inr again)) = let is : None ≡ Some e = sym (opened-unspent a b p q o) ∙ again.before in absurd cc
+nested_stop a b c p q r e Q R weaker o (inr h) = inr (nested_refused a b c p q r e o h)
+
+stops_deep : (depth ty : ℕ) (s : Stop) (bytes : List ℕ) → IsNested ty → depth ≡ 0 → s ≡ Large 0 → bytes ≡ [] → StopsWire depth ty s bytes
+stops_deep zero ty s bytes nested deep large none = inr (nested, none, large)
+stops_deep (suc d) ty s bytes nested deep large none = absurd (omega (arith, deep))
+
+-- too many were open already
+pub open_stop : (a b : Option (List ℕ)) (p q : Progress) (e : WireFault) (ty : ℕ) → IsNested ty → Opens {T = ⊤} a b p q (Err e) → Fails a b p q e (StopsWire p.room ty)
+open_stop a b p q e ty nested (inl h) = inl (inl (record { bytes = h.bytes; stop = h.stop; unspent = h.unspent; spent = h.spent; tells = h.tells; holds = stops_deep p.room ty h.stop h.bytes nested h.holds.0 h.holds.1 h.holds.2 }))
+open_stop a b p q e ty nested (inr h) = inl (inr h)
+
+-- a struct or collection that was opened can be closed
+pub room_left : (a b c d : Option (List ℕ)) (p q r : Progress) (P : List ℕ → Type 0) → Opened a b p q → p.room ≤ DEPTH_LIMIT → Took c d q r P → r.room < DEPTH_LIMIT
+room_left a b c d p q r P o fits took = omega (arith, Took-room c d q r P took, opened-room a b p q o, o.2, fits)

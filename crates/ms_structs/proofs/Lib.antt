@@ -1,0 +1,10 @@
+pub mod Getting
+pub mod FieldsSoFar
+pub mod ElementsSoFar
+pub mod EntriesSoFar
+pub mod Plain
+pub mod Others
+pub mod Said
+pub mod DatabaseSaid
+pub mod PiecesWritten
+pub mod RoundTrip

@@ -1,0 +1,36 @@
+-- Database: what its fields say.
+use Rattle.std.specs.Prelude.{ℕ, ℤ, pos, [], Option, Some}
+use Rattle.cat_types.specs.declared.arguments.DbArg.{DbArg}
+use Rattle.ms_structs.specs.declared.database.DatabaseFields.{DatabaseFields}
+use Rattle.ms_structs.specs.declared.got.Got.{Got}
+use Rattle.ms_structs.specs.declared.got.Got.TheVariants.{Nothing}
+use Rattle.ms_structs.specs.Slots.{slot, made_of, struct_of, optional_of, given_or, for_said}
+use Rattle.ms_structs.specs.Values.{text_of, params_of}
+use Rattle.thrift_binary.specs.Tree.{Fields, Wire}
+
+-- 1 name, 2 description, 3 locationUri, 4 parameters, 6 ownerName
+abbrev pub database_none : DatabaseFields
+database_none = record { name = Nothing; description = Nothing; location = Nothing; params = Nothing; owner = Nothing }
+
+abbrev pub database_set : DatabaseFields → ℕ → ℤ → Wire → DatabaseFields
+database_set f ty id w = record {
+  name = slot (pos 1) 11 text_of f.name ty id w;
+  description = slot (pos 2) 11 text_of f.description ty id w;
+  location = slot (pos 3) 11 text_of f.location ty id w;
+  params = slot (pos 4) 13 params_of f.params ty id w;
+  owner = slot (pos 6) 11 text_of f.owner ty id w;
+}
+
+-- absent texts stay absent, and an absent map is empty
+abbrev pub database_whole : DatabaseFields → Option DbArg
+database_whole f =
+    for_said (optional_of f.name) (λ name. for_said (optional_of f.description) (λ description. for_said (optional_of f.location) (λ location.
+    for_said (given_or [] f.params) (λ params. for_said (optional_of f.owner) (λ owner.
+    Some (record { name = name; rec = record { description = description; location = location; params = params; owner = owner } }))))))
+
+-- the database that these fields make; None: a text that counts isn't UTF-8
+abbrev pub database_made : Fields → Option DbArg
+database_made = made_of database_whole database_set database_none
+
+abbrev pub database_of : Wire → Got DbArg
+database_of = struct_of database_whole database_set database_none

@@ -1,0 +1,50 @@
+-- What a struct says, in plainer words than the fold over its fields.
+use Rattle.std.specs.Prelude.{◌≡◌, ℕ, ℤ, pos, List, [], ◌∷◌, Option, None, Some, ⊤}
+use Rattle.std.specs.Cmp.Lexicographic.{slice_cmp}
+use Rattle.std.specs.List.Sorted.{IsStrictlySortedBy}
+use Rattle.std.specs.Map.{keys_of}
+use Rattle.std.specs.Ordering.{nat_cmp}
+use Rattle.std.specs.Str.{IsUtf8}
+use Rattle.cat_values.specs.declared.records.DbRec.{DbRec}
+use Rattle.ms_structs.specs.declared.got.Got.TheVariants.{Is}
+use Rattle.ms_structs.specs.Written.{database_fields}
+use Rattle.thrift_binary.specs.Tree.{Fields, Struct}
+use Rattle.ms_structs.specs.Slots.{only, said}
+use Rattle.ms_structs.specs.Values.{params_of, text_of}
+use Rattle.ms_structs.specs.Database.{database_made, database_of, database_whole}
+
+-- a database is made of what the last field with each known id says, of those that say something
+abbrev pub DatabaseIsSaid : Type 0
+DatabaseIsSaid = (v : Fields) → database_made v ≡ database_whole (record {
+  name = said (pos 1) 11 text_of v;
+  description = said (pos 2) 11 text_of v;
+  location = said (pos 3) 11 text_of v;
+  params = said (pos 4) 13 params_of v;
+  owner = said (pos 6) 11 text_of v;
+})
+
+-- structs that have the same fields under each id, whatever stands between them, say the same database
+abbrev pub OrderIsFree : Type 0
+OrderIsFree = (v v' : Fields) → ((key : ℤ) → only key v ≡ only key v') → database_of (Struct v) ≡ database_of (Struct v')
+
+-- a text in UTF-8, if any
+abbrev pub IsTextOrNone : Option (List ℕ) → Type 0
+IsTextOrNone None = ⊤
+IsTextOrNone (Some text) = IsUtf8 text
+
+-- pairs of texts in UTF-8
+abbrev pub ArePairs : List (List ℕ × List ℕ) → Type 0
+ArePairs [] = ⊤
+ArePairs (pair ∷ pairs) = (IsUtf8 pair.0 × IsUtf8 pair.1) × ArePairs pairs
+
+-- what holds of every record in memory: its texts are UTF-8, and its parameters stand in rising order of their keys
+pub record IsKept (rec : DbRec) : Type 0 where
+  pub description : IsTextOrNone rec.description
+  pub location : IsTextOrNone rec.location
+  pub owner : IsTextOrNone rec.owner
+  pub params : ArePairs rec.params
+  pub sorted : IsStrictlySortedBy (slice_cmp nat_cmp) (keys_of rec.params)
+
+-- a database that is written reads back as it was
+abbrev pub WrittenIsRead : Type 0
+WrittenIsRead = (name : List ℕ) (rec : DbRec) → IsUtf8 name → IsKept rec → database_of (Struct (database_fields name rec)) ≡ Is (record { name = Some name; rec = rec })

@@ -1,0 +1,6 @@
+pub mod Database
+pub mod Getting
+pub mod Laws
+pub mod Slots
+pub mod Values
+pub mod Written

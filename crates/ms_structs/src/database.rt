@@ -1,0 +1,132 @@
+//! Databases.
+
+ghost use Rattle.std.specs.Prelude.{◌≡◌, ℕ, ℤ, ◌≤◌, None, IsErrOf};
+ghost use Rattle.hms_outside.specs.Causes.{Rose};
+ghost use Rattle.ms_structs.specs.Getting.{Makes};
+ghost use Rattle.thrift_binary.specs.Sending.{Gathers};
+ghost use Rattle.thrift_binary.specs.Strict.{fields_bytes, wire_bytes};
+ghost use Rattle.thrift_binary.specs.Tree.{Struct};
+ghost use Rattle.ms_structs.specs.Written.{database_fields};
+ghost use Rattle.ms_structs.specs.Database.{database_made, database_none, database_of, database_set, database_whole};
+
+use crate::writing::{put_optional, put_params};
+use crate::{FieldSink, FromWire, Got, StructFault, read_struct, read_whole, skip_field};
+use cat_types::{DbArg, DbRec, MapOf, NoMemory, Params, Text};
+use hms_outside::Source;
+use std::alloc::Global;
+use thrift_binary::{WireFault, WireReader, WireWriter};
+
+/// What the fields of a Database said.
+#[derive(Drop)]
+pub struct DatabaseFields {
+    pub name: Got<Text>,
+    pub description: Got<Text>,
+    pub location: Got<Text>,
+    pub params: Got<Params>,
+    pub owner: Got<Text>,
+}
+
+impl FieldSink for DatabaseFields {
+    type Out = DbArg;
+
+    ghost none = { database_none };
+
+    ghost set = { database_set };
+
+    ghost whole = { database_whole };
+
+    fn empty() -> DatabaseFields {
+        DatabaseFields {
+            name: Got::Nothing,
+            description: Got::Nothing,
+            location: Got::Nothing,
+            params: Got::Nothing,
+            owner: Got::Nothing,
+        }
+    }
+
+    fn finish(self, alloc: Global) -> Option<DbArg> {
+        let name = self.name.optional()?;
+        let description = self.description.optional()?;
+        let location = self.location.optional()?;
+        let params = self.params.or(MapOf::new(alloc))?;
+        let owner = self.owner.optional()?;
+        Some(DbArg {
+            name,
+            rec: DbRec {
+                description,
+                location,
+                params,
+                owner,
+            },
+        })
+    }
+
+    fn take<S: Source>(
+        &mut self,
+        alloc: Global,
+        reader: &mut WireReader<'_, S>,
+        ty: u8,
+        id: i16,
+    ) -> Result<(), WireFault> {
+        match id {
+            1 => self.name.take(alloc, reader, ty),
+            2 => self.description.take(alloc, reader, ty),
+            3 => self.location.take(alloc, reader, ty),
+            4 => self.params.take(alloc, reader, ty),
+            6 => self.owner.take(alloc, reader, ty),
+            _ => skip_field(reader, ty),
+        }
+    }
+}
+
+impl FromWire for DbArg {
+    ghost CODE = { 12 };
+
+    const CODE: u8 = 12;
+
+    ghost means = { database_of };
+
+    fn read<S: Source>(
+        alloc: Global,
+        reader: &mut WireReader<'_, S>,
+    ) -> Result<Got<DbArg>, WireFault> {
+        read_struct::<DatabaseFields, S>(alloc, reader)
+    }
+}
+
+/// Reads a Database. `BadText` comes exactly where a text that counts isn't UTF-8; the struct was
+/// then read to its end.
+pub fn read_database<S: Source>(
+    alloc: Global,
+    reader: &mut WireReader<'_, S>,
+) -> Result<DbArg, StructFault>
+    ensures same_source { reader.new.source.ghost_name ≡ reader.old.source.ghost_name }
+    ensures later { S.faults reader.old.source.now ≤ S.faults reader.new.source.now }
+    ensures cause { reader.old.progress.fault ≡ None → IsErrOf result (StructFault.Wire WireFault.ReadFault) → Rose (S.faults reader.old.source.now) (S.faults reader.new.source.now) }
+    ensures reads { Makes (S.left reader.old.source.now) (S.left reader.new.source.now) reader.old.progress reader.new.progress result database_made }
+{
+    read_whole::<DatabaseFields, S>(alloc, reader)
+}
+
+/// A Database with its fields in rising order of their ids. Absent texts aren't written; the
+/// parameters always are.
+pub fn write_database(writer: &mut WireWriter, name: &Text, rec: &DbRec) -> Result<(), NoMemory>
+    ensures { Gathers writer.old writer.new result (wire_bytes 12 (Struct (database_fields name.now rec.now))) }
+{
+    put_database_fields(writer, name, rec)?;
+    writer.stop()
+}
+
+// The fields of a database.
+fn put_database_fields(writer: &mut WireWriter, name: &Text, rec: &DbRec) -> Result<(), NoMemory>
+    ensures { Gathers writer.old writer.new result (fields_bytes (database_fields name.now rec.now)) }
+{
+    writer.field(11, 1)?;
+    writer.text(name)?;
+    put_optional(writer, 2, &rec.description)?;
+    put_optional(writer, 3, &rec.location)?;
+    writer.field(13, 4)?;
+    put_params(writer, &rec.params)?;
+    put_optional(writer, 6, &rec.owner)
+}

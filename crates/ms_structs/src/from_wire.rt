@@ -1,0 +1,149 @@
+//! Values of one type off the wire.
+
+ghost use Rattle.std.specs.Prelude.{◌≡◌, ℕ, ◌≤◌, None, IsErrOf};
+ghost use Rattle.hms_outside.specs.Causes.{Rose};
+ghost use Rattle.ms_structs.specs.Getting.{Gets};
+ghost use Rattle.thrift_binary.specs.Tree.{Wire};
+ghost use Rattle.thrift_binary.specs.Wire.{IsCode, IsWire, StopsWire};
+ghost use Rattle.ms_structs.specs.declared.got.Got.{Got};
+ghost use Rattle.ms_structs.specs.Slots.{over, typed};
+ghost use Rattle.ms_structs.specs.Values.{flag_of, number_of, text_of};
+
+use crate::Got;
+use cat_types::Text;
+use hms_outside::Source;
+use std::alloc::Global;
+use thrift_binary::{WireFault, WireReader};
+
+/// What is read off a value of one type.
+pub trait FromWire: Drop {
+    /// The code of the type.
+    ghost CODE: { ℕ };
+
+    const CODE: u8;
+
+    /// What a value says, as a tree.
+    ghost means: { Wire → Got Self };
+
+    /// Reads a value of this type.
+    fn read<S: Source>(
+        alloc: Global,
+        reader: &mut WireReader<'_, S>,
+    ) -> Result<Got<Self>, WireFault>
+        ensures same_source { reader.new.source.ghost_name ≡ reader.old.source.ghost_name }
+        ensures later { S.faults reader.old.source.now ≤ S.faults reader.new.source.now }
+        ensures cause { reader.old.progress.fault ≡ None → IsErrOf result WireFault.ReadFault → Rose (S.faults reader.old.source.now) (S.faults reader.new.source.now) }
+        ensures reads { Gets (S.left reader.old.source.now) (S.left reader.new.source.now) reader.old.progress reader.new.progress result (λ got bytes. (w : Wire) × IsWire w reader.old.progress.room CODE bytes × (got ≡ means w)) (StopsWire reader.old.progress.room CODE) };
+}
+
+/// Reads a value of the type with this code, or skips it where a `T` has another code.
+pub fn read_typed<T: FromWire, S: Source>(
+    alloc: Global,
+    reader: &mut WireReader<'_, S>,
+    ty: u8,
+) -> Result<Got<T>, WireFault>
+    requires { IsCode ty }
+    ensures same_source { reader.new.source.ghost_name ≡ reader.old.source.ghost_name }
+    ensures later { S.faults reader.old.source.now ≤ S.faults reader.new.source.now }
+    ensures cause { reader.old.progress.fault ≡ None → IsErrOf result WireFault.ReadFault → Rose (S.faults reader.old.source.now) (S.faults reader.new.source.now) }
+    ensures reads { Gets (S.left reader.old.source.now) (S.left reader.new.source.now) reader.old.progress reader.new.progress result (λ got bytes. (w : Wire) × IsWire w reader.old.progress.room ty bytes × (got ≡ typed T.CODE T.means ty w)) (StopsWire reader.old.progress.room ty) }
+{
+    if ty == T::CODE {
+        return T::read(alloc, reader);
+    }
+    reader.skip(ty)?;
+    Ok(Got::Nothing)
+}
+
+/// Skips the value of a field that no slot is for.
+pub fn skip_field<S: Source>(reader: &mut WireReader<'_, S>, ty: u8) -> Result<(), WireFault>
+    requires { IsCode ty }
+    ensures same_source { reader.new.source.ghost_name ≡ reader.old.source.ghost_name }
+    ensures later { S.faults reader.old.source.now ≤ S.faults reader.new.source.now }
+    ensures cause { reader.old.progress.fault ≡ None → IsErrOf result WireFault.ReadFault → Rose (S.faults reader.old.source.now) (S.faults reader.new.source.now) }
+    ensures reads { Gets (S.left reader.old.source.now) (S.left reader.new.source.now) reader.old.progress reader.new.progress result (λ _ bytes. (w : Wire) × IsWire w reader.old.progress.room ty bytes) (StopsWire reader.old.progress.room ty) }
+{
+    reader.skip(ty)
+}
+
+impl<T: FromWire> Got<T> {
+    /// Reads the value of a field of this slot, or skips it where its type is another.
+    pub fn take<S: Source>(
+        &mut self,
+        alloc: Global,
+        reader: &mut WireReader<'_, S>,
+        ty: u8,
+    ) -> Result<(), WireFault>
+        requires { IsCode ty }
+        ensures same_source { reader.new.source.ghost_name ≡ reader.old.source.ghost_name }
+        ensures later { S.faults reader.old.source.now ≤ S.faults reader.new.source.now }
+        ensures cause { reader.old.progress.fault ≡ None → IsErrOf result WireFault.ReadFault → Rose (S.faults reader.old.source.now) (S.faults reader.new.source.now) }
+        ensures reads { Gets (S.left reader.old.source.now) (S.left reader.new.source.now) reader.old.progress reader.new.progress result (λ _ bytes. (w : Wire) × IsWire w reader.old.progress.room ty bytes × (self.new ≡ over (typed T.CODE T.means ty w) self.old)) (StopsWire reader.old.progress.room ty) }
+    {
+        self.put(read_typed::<T, S>(alloc, reader, ty)?);
+        Ok(())
+    }
+}
+
+impl FromWire for bool {
+    ghost CODE = { 2 };
+
+    const CODE: u8 = 2;
+
+    ghost means = { flag_of };
+
+    fn read<S: Source>(
+        _alloc: Global,
+        reader: &mut WireReader<'_, S>,
+    ) -> Result<Got<bool>, WireFault> {
+        Ok(Got::Is(reader.flag()?))
+    }
+}
+
+impl FromWire for i32 {
+    ghost CODE = { 8 };
+
+    const CODE: u8 = 8;
+
+    ghost means = { number_of };
+
+    fn read<S: Source>(
+        _alloc: Global,
+        reader: &mut WireReader<'_, S>,
+    ) -> Result<Got<i32>, WireFault> {
+        Ok(Got::Is(reader.int()?))
+    }
+}
+
+impl FromWire for i64 {
+    ghost CODE = { 10 };
+
+    const CODE: u8 = 10;
+
+    ghost means = { number_of };
+
+    fn read<S: Source>(
+        _alloc: Global,
+        reader: &mut WireReader<'_, S>,
+    ) -> Result<Got<i64>, WireFault> {
+        Ok(Got::Is(reader.long()?))
+    }
+}
+
+impl FromWire for Text {
+    ghost CODE = { 11 };
+
+    const CODE: u8 = 11;
+
+    ghost means = { text_of };
+
+    fn read<S: Source>(
+        alloc: Global,
+        reader: &mut WireReader<'_, S>,
+    ) -> Result<Got<Text>, WireFault> {
+        match reader.text(alloc)? {
+            Some(text) => Ok(Got::Is(text)),
+            None => Ok(Got::BadText),
+        }
+    }
+}

@@ -1,0 +1,19 @@
+//! What structs say, proved over all of them.
+
+ghost use Rattle.ms_structs.specs.Laws.{DatabaseIsSaid, OrderIsFree, WrittenIsRead};
+
+/// A database is made of what the last field with each known id says, of those that say something:
+/// fields with unknown ids, or of another type, count for nothing.
+pub fn database_is_said()
+    ensures { DatabaseIsSaid }
+{}
+
+/// The order of fields with different ids doesn't count.
+pub fn order_is_free()
+    ensures { OrderIsFree }
+{}
+
+/// A database that is written reads back as it was.
+pub fn written_is_read()
+    ensures { WrittenIsRead }
+{}

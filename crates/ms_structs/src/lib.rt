@@ -1,0 +1,24 @@
+//! The structs of the metastore's Thrift interface, off the wire and onto it.
+#![tactic(auto)]
+
+mod database;
+mod from_wire;
+mod functions;
+mod got;
+mod laws;
+mod lists;
+mod maps;
+mod pairs;
+mod struct_fault;
+mod structs;
+mod writing;
+
+pub use database::{DatabaseFields, read_database, write_database};
+pub use from_wire::{FromWire, read_typed, skip_field};
+pub use functions::write_get_all_functions_response;
+pub use got::{Got, said_or_bad};
+pub use laws::{database_is_said, order_is_free, written_is_read};
+pub use pairs::PairsSoFar;
+pub use struct_fault::StructFault;
+pub use structs::{FieldSink, read_slots, read_struct, read_whole};
+pub use writing::{put_optional, put_params, put_texts};

@@ -1,0 +1,11 @@
+use Rattle.std.proofs.Common.{refl, inl, inr, ap, arith}
+use Rattle.std.proofs.lemmas.Int.{ints}
+use Rattle.thrift_binary.specs.declared.fault.WireFault.TheVariants.{BadWire, TooLarge}
+use Rattle.thrift_binary.specs.Taking.{Bad, Large}
+use Rattle.thrift_binary.proofs.collections.count_of.Goals as goal
+
+pub returns-then-n-lt0-clause-judged : goal.returns-then-n-lt0-clause-judged
+returns-then-n-lt0-clause-judged c = (Bad 3 0, inl (c.int_of-n.result, c.int_of-n.ensures, omega (arith, ints), refl), ap (BadWire 3) (omega arith))
+
+pub returns-then-n-gt-COUNT_LIMIT-clause-judged : goal.returns-then-n-gt-COUNT_LIMIT-clause-judged
+returns-then-n-gt-COUNT_LIMIT-clause-judged c = (Large 0, inr (c.int_of-n.result, c.int_of-n.ensures, omega (arith, ints), refl), ap TooLarge (omega arith))

@@ -1,0 +1,5 @@
+pub mod Words
+pub mod PlainTaking
+pub mod PlainHeads
+pub mod PlainValues
+pub mod PlainTexts
