@@ -1,6 +1,6 @@
 //! What the program meets outside itself: sources and sinks of bytes, disks, folders and clocks.
 //! Each is a trait that counts its faults and may tell its content; each has a form over memory,
-//! whose calls fail where a list says so, and sources and sinks have adapters over std's streams.
+//! whose calls fail where a list says so, and sources, sinks and clocks have adapters over std's.
 #![tactic(auto)]
 
 mod byte_moves;
@@ -18,6 +18,7 @@ mod sending;
 mod sink;
 mod source;
 mod stream;
+mod system_clock;
 
 pub use clock::Clock;
 pub use disk::Disk;
@@ -32,3 +33,4 @@ pub use sending::send_all;
 pub use sink::Sink;
 pub use source::Source;
 pub use stream::{StreamSink, StreamSource};
+pub use system_clock::SystemClock;

@@ -3,11 +3,12 @@
 use cat_values::Bytes;
 use hms_outside::{
     Clock, Disk, Folder, MemClock, MemDisk, MemFolder, MemSink, MemSource, Outage, Sink, Source,
-    StreamSink, StreamSource, send_all,
+    StreamSink, StreamSource, SystemClock, send_all,
 };
 use std::cell::Cell;
 use std::io::{self, Read, Write};
 use std::test::Fail;
+use std::time::{self, Duration};
 
 #[test]
 fn a_source_fails_at_its_listed_calls(rt: HostRuntime) -> Result<(), Fail> {
@@ -173,5 +174,43 @@ fn a_flush_reaches_the_stream(rt: HostRuntime) -> Result<(), Fail> {
     assert_eq!(rt; bytes.get(), 31);
     assert_eq!(rt; sink.write(b"e"), Ok(1));
     assert_eq!(rt; sink.flush(), Err(Outage::Failed));
+    Ok(())
+}
+
+// A clock that tells 7.9 seconds at its second reading, and can't be read before and afterwards.
+#[derive(Drop)]
+struct Once<'a> {
+    readings: &'a Cell<u32>,
+}
+
+impl time::Clock for Once<'_> {
+    fn monotonic(&self) -> io::Result<Duration> {
+        Err(io::Error::from(io::ErrorKind::Unsupported))
+    }
+
+    fn since_1970(&self) -> io::Result<Duration> {
+        let readings = self.readings.get();
+        self.readings.set(readings.saturating_add(1));
+        if readings == 1 {
+            return Ok(Duration::from_millis(7_900));
+        }
+        Err(io::Error::from(io::ErrorKind::Unsupported))
+    }
+}
+
+#[test]
+fn a_system_clock_repeats_its_last_moment(rt: HostRuntime) -> Result<(), Fail> {
+    let readings = Cell::new(0);
+    let mut clock = SystemClock::new(Once {
+        readings: &readings,
+    });
+    assert_eq!(rt; [clock.now(), clock.now(), clock.now()], [0, 7, 7]);
+    assert_eq!(rt; readings.get(), 3);
+    Ok(())
+}
+
+#[test]
+fn the_system_clock_is_behind_the_year_2020(rt: HostRuntime) -> Result<(), Fail> {
+    assert!(rt; SystemClock::new(&rt).now() > 1_577_836_800);
     Ok(())
 }
