@@ -54,7 +54,7 @@ asked_fits (Some method.GetAllDatabases) v = (tt, refl)
 
 -- so does what was read
 pub read_fits : (m n : Option Method) (a b : Option (List ℕ)) (p q : Progress) (result : Result Asked WireFault) (depth : ℕ) (Stops : Stop → List ℕ → Type 0)
-    → m ≡ n → Gets a b p q result (λ asked bytes. (v : Fields) × IsWire (Struct v) depth 12 bytes × (asked ≡ asked_by m v)) Stops → IfOk result (Fits n)
+    → m ≡ n → Gets a b p q result (λ v. IsWire (Struct v) depth 12) (λ v asked. asked ≡ asked_by m v) Stops → IfOk result (Fits n)
 read_fits m n a b p q (Ok asked) depth Stops same h = subst (λ k. Fits k asked) same (subst (Fits m) (sym h.holds.2) (asked_fits m h.holds.0))
 read_fits m n a b p q (Err e) depth Stops same h = tt
 

@@ -2,12 +2,13 @@
 use Rattle.std.proofs.Common.{◌≡◌, ℕ, ◌+◌, ◌-◌, ◌<◌, ◌≤◌, ℤ, List, [], ◌++◌, length, Option, Some, None, refl, sym, ap, ◌∙◌, subst, arith, inl, inr, zero, suc, append_assoc, append-nil, length-append}
 use Rattle.thrift_binary.specs.declared.fault.WireFault.{WireFault}
 use Rattle.thrift_binary.specs.declared.progress.Progress.{Progress}
-use Rattle.thrift_binary.specs.Taking.{Stop, Took, closed}
+use Rattle.thrift_binary.specs.Taking.{Stop, Cut, Took, closed}
 use Rattle.thrift_binary.specs.Tree.{Wire, Struct, Fields, NoFields, Field}
 use Rattle.thrift_binary.specs.Wire.{IsCode, IsField, StopsField, IsWire, AreFields, IsStruct, StopsThen, Behind, StopsWire, StopsFields}
 use Rattle.ms_structs.specs.Slots.{fold_fields}
-use Rattle.thrift_binary.proofs.Reading.{Took-then, Took-room, Took-place, Took-limit, took_nothing}
-use Rattle.ms_structs.proofs.Getting.{Fails, fails_behind, Opened, opened-room, nested_stop, nested_took}
+use Rattle.thrift_binary.proofs.Reading.{Faulted, Took-then, Took-room, Took-place, Took-limit, took_nothing, fault_behind}
+use Rattle.ms_structs.proofs.Getting.{Fails, fails_as, fails_behind, Opened, opened-room, nested_stop, nested_took}
+use Rattle.ms_structs.proofs.Beginning.{fields_so_far}
 
 -- some fields, and one more
 abbrev pub push_field : Fields → ℕ → ℤ → Wire → Fields
@@ -44,17 +45,24 @@ pub fields_end : (a b c : Option (List ℕ)) (p q r : Progress) (So : Fields →
 fields_end a b c p q r So before end =
     Took-then a b c p q r (SomeFields p.room So) (IsField None) _ (λ front rest x y. (x.0, (front, ap (λ z. front ++ z) y, x.1), x.2)) before end
 
-pub fields_stop_head : (a b c : Option (List ℕ)) (p q r : Progress) (So : Fields → Type 0) (e : WireFault) → Took a b p q (SomeFields p.room So) → Fails b c q r e StopsField → Fails a c p r e (StopsFields p.room)
+pub fields_stop_head : (a b c : Option (List ℕ)) (p q r : Progress) (So : Fields → Type 0) (e : WireFault) → Took a b p q (SomeFields p.room So) → Faulted b c q r e StopsField → Fails a c p r e (IsStruct p.room) (StopsFields p.room)
 fields_stop_head a b c p q r So e before stop =
-    fails_behind a b c p q r e (SomeFields p.room So) StopsField (StopsFields p.room) (λ front rest s x y. (x.0, front, rest, s, refl, x.1, refl, inl y)) before stop
+    inl (fault_behind a b c p q r e (SomeFields p.room So) StopsField (StopsFields p.room) (λ front rest s x y. (x.0, front, rest, s, refl, x.1, refl, inl y)) before stop)
 
-pub fields_stop_value : (a b c d : Option (List ℕ)) (p q r s : Progress) (So : Fields → Type 0) (e : WireFault) (ty : ℕ) (id : ℤ) → Took a b p q (SomeFields p.room So) → Took b c q r (IsField (Some (ty, id))) → Fails c d r s e (StopsWire r.room ty) → Fails a d p s e (StopsFields p.room)
+-- a field: its head, and its value
+abbrev OneField : ℕ → ℕ → ℤ → Wire → List ℕ → Type 0
+OneField depth ty id w bytes = (head value : List ℕ) × (bytes ≡ head ++ value) × IsField (Some (ty, id)) head × IsWire w depth ty value
+
+-- a fault of a field's value is a fault of the struct; where the value was taken whole the struct's end is still to come
+pub fields_stop_value : (a b c d : Option (List ℕ)) (p q r s : Progress) (So : Fields → Type 0) (e : WireFault) (ty : ℕ) (id : ℤ) → Took a b p q (SomeFields p.room So) → Took b c q r (IsField (Some (ty, id))) → Fails c d r s e (λ w. IsWire w r.room ty) (StopsWire r.room ty) → Fails a d p s e (IsStruct p.room) (StopsFields p.room)
 fields_stop_value a b c d p q r s So e ty id before head stop =
     let room : r.room ≡ p.room = Took-room b c q r _ head ∙ Took-room a b p q _ before in
-    let inside : Fails c d r s e (StopsWire p.room ty) = subst (λ n. Fails c d r s e (StopsWire n ty)) room stop in
+    let inside : Fails c d r s e (λ w. IsWire w p.room ty) (StopsWire p.room ty) = subst (λ n. Fails c d r s e (λ w. IsWire w n ty) (StopsWire n ty)) room stop in
     let Stops : Stop → List ℕ → Type 0 = StopsThen IsField StopsField (Behind (λ (field : ℕ × ℤ). StopsWire p.room field.0)) in
-    let field : Fails b d q s e Stops = fails_behind b c d q r s e (IsField (Some (ty, id))) (StopsWire p.room ty) Stops (λ front rest x y z. inr (Some (ty, id), front, rest, x, refl, y, refl, z)) head inside in
-    fails_behind a b d p q s e (SomeFields p.room So) Stops (StopsFields p.room) (λ front rest x y z. (y.0, front, rest, x, refl, y.1, refl, z)) before field
+    let field : Fails b d q s e (OneField p.room ty id) Stops = fails_behind b c d q r s e (IsField (Some (ty, id))) (λ w. IsWire w p.room ty) (StopsWire p.room ty) (OneField p.room ty id) Stops (λ front rest x y z. inr (Some (ty, id), front, rest, x, refl, y, refl, z)) (λ front rest w y z. inr (w, (front, rest, refl, y, z))) head inside in
+    fails_behind a b d p q s e (SomeFields p.room So) (OneField p.room ty id) Stops (IsStruct p.room) (StopsFields p.room) (λ front rest x y z. (y.0, front, rest, x, refl, y.1, refl, z))
+    (λ front rest w y z. inl (Cut, fields_so_far p.room (push_field y.0 ty id w) (front ++ rest) (subst (λ bytes. AreFields (push_field y.0 ty id w) p.room (front ++ bytes)) (sym z.2) (pushed y.0 p.room ty id w front z.0 z.1 y.1 z.3 z.4))))
+    before field
 
 pub head_is : (a b : Option (List ℕ)) (p q : Progress) (h h' : Option (ℕ × ℤ)) → h ≡ h' → Took a b p q (IsField h) → Took a b p q (IsField h')
 head_is a b p q h h' e t = subst (λ x. Took a b p q (IsField x)) e t
@@ -82,10 +90,14 @@ stops_struct zero some s bytes h = absurd (omega (arith, some))
 stops_struct (suc d) some s bytes h = inr (inl (refl, subst (λ n. StopsFields n s bytes) (omega arith) h))
 
 -- a fault among the fields is a fault of the struct
-pub struct_stop : (a b c : Option (List ℕ)) (p q r : Progress) (e : WireFault) → Opened a b p q → Fails b c q r e (StopsFields q.room) → Fails a c p r e (StopsWire p.room 12)
+pub struct_stop : (a b c : Option (List ℕ)) (p q r : Progress) (e : WireFault) → Opened a b p q → Fails b c q r e (IsStruct q.room) (StopsFields q.room) → Fails a c p r e (λ v. IsWire (Struct v) p.room 12) (StopsWire p.room 12)
 struct_stop a b c p q r e o stop =
-    let inside : Fails b c q r e (StopsFields (p.room - 1)) = subst (λ n. Fails b c q r e (StopsFields n)) (opened-room a b p q o) stop in
-    nested_stop a b c p q r e (StopsFields (p.room - 1)) (StopsWire p.room 12) (stops_struct p.room o.2) o inside
+    let inside : Fails b c q r e (IsStruct (p.room - 1)) (StopsFields (p.room - 1)) = subst (λ n. Fails b c q r e (IsStruct n) (StopsFields n)) (opened-room a b p q o) stop in
+    nested_stop a b c p q r e (IsStruct (p.room - 1)) (StopsFields (p.room - 1)) (λ v. IsWire (Struct v) p.room 12) (StopsWire p.room 12) (stops_struct p.room o.2) (λ v bytes h. inr (v, wire_struct p.room o.2 v bytes h)) o inside
+
+-- a struct is a tree
+pub struct_fault : (a b : Option (List ℕ)) (p q : Progress) (e : WireFault) → Fails a b p q e (λ v. IsWire (Struct v) p.room 12) (StopsWire p.room 12) → Fails a b p q e (λ w. IsWire w p.room 12) (StopsWire p.room 12)
+struct_fault a b p q e h = fails_as a b p q e (λ v. IsWire (Struct v) p.room 12) (StopsWire p.room 12) (λ w. IsWire w p.room 12) (StopsWire p.room 12) (λ s bytes x. x) (λ v bytes x. inr (Struct v, x)) h
 
 pub struct_took : (a b c c' : Option (List ℕ)) (p q r r' : Progress) (So Says : Fields → Type 0) → ((v : Fields) → So v → Says v) → Opened a b p q → Took b c q r (λ bytes. (v : Fields) × IsStruct q.room v bytes × So v) → c' ≡ c → r' ≡ closed r → Took a c' p r' (λ bytes. (v : Fields) × IsWire (Struct v) p.room 12 bytes × Says v)
 struct_took a b c c' p q r r' So Says says o took same is =

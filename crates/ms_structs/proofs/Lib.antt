@@ -1,4 +1,5 @@
 pub mod Getting
+pub mod Beginning
 pub mod FieldsSoFar
 pub mod ElementsSoFar
 pub mod EntriesSoFar

@@ -1,12 +1,19 @@
 -- Values of plain types.
-use Rattle.std.proofs.Common.{◌≡◌, ℕ, zero, suc, List, Bool, true, false, refl, ap, inl, inr, ℤ, Some, None}
+use Rattle.std.proofs.Common.{◌≡◌, ℕ, zero, suc, List, Bool, true, false, refl, sym, subst, ap, ◌∙◌, inl, inr, ℤ, Some, None, Option, Result}
 use Rattle.std.specs.Str.{IsUtf8, is_utf8}
+use Rattle.std.proofs.lemmas.Bool.{eq-eqb}
 use Rattle.std.proofs.lemmas.Str.{IsUtf8-from_is_utf8, is_utf8-from_IsUtf8}
+use Rattle.ms_structs.specs.declared.got.Got.{Got}
 use Rattle.ms_structs.specs.declared.got.Got.TheVariants.{Is, BadText}
+use Rattle.thrift_binary.specs.declared.fault.WireFault.{WireFault}
+use Rattle.thrift_binary.specs.declared.progress.Progress.{Progress}
 use Rattle.thrift_binary.specs.Taking.{Stop}
 use Rattle.thrift_binary.specs.Tree.{Wire, Flag, Number, Bytes}
 use Rattle.thrift_binary.specs.Wire.{IsFlag, IsInt, IsLong, IsText, IsWire, StopsPlain, StopsShort, StopsString, StopsWire}
+use Rattle.ms_structs.specs.Getting.{Gets}
+use Rattle.ms_structs.specs.Slots.{typed}
 use Rattle.ms_structs.specs.Values.{text_of, flag_of, number_of}
+use Rattle.ms_structs.proofs.Getting.{gets_weaker}
 
 stops_plain : (depth ty : ℕ) (s : Stop) (bytes : List ℕ) → StopsPlain ty s bytes → StopsWire depth ty s bytes
 stops_plain zero ty s bytes h = inl h
@@ -43,3 +50,12 @@ not_utf8 bytes false e h = e
 
 pub bad_text_read : (depth : ℕ) (bytes : List ℕ) → IsText None bytes → (w : Wire) × IsWire w depth 11 bytes × (BadText ≡ text_of w)
 bad_text_read depth bytes h = let e : is_utf8 h.0 ≡ false = not_utf8 h.0 (is_utf8 h.0) refl h.2 in (Bytes h.0, (refl, h.1), rw e refl)
+
+-- a value of the type that is wanted says what it means
+typed_same : {T : Type 0} (code ty : ℕ) (means : Wire → Got T) (w : Wire) → ty ≡ code → typed code means ty w ≡ means w
+typed_same code ty means w same = rw (same, eq-eqb code code refl) refl
+
+pub typed_read : {T : Type 0} (a b : Option (List ℕ)) (p q : Progress) (r : Result (Got T) WireFault) (code ty : ℕ) (means : Wire → Got T) → ty ≡ code → Gets a b p q r (λ w. IsWire w p.room code) (λ w got. got ≡ means w) (StopsWire p.room code) → Gets a b p q r (λ w. IsWire w p.room ty) (λ w got. got ≡ typed code means ty w) (StopsWire p.room ty)
+typed_read {T} a b p q r code ty means same h =
+    let read = gets_weaker a b p q r (λ w. IsWire w p.room code) (λ w (got : Got T). got ≡ means w) (λ w got. got ≡ typed code means ty w) (StopsWire p.room code) (λ w got is. is ∙ sym (typed_same code ty means w same)) h in
+    subst (λ n. Gets a b p q r (λ w. IsWire w p.room n) (λ w (got : Got T). got ≡ typed code means ty w) (StopsWire p.room n)) (sym same) read

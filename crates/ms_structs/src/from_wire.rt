@@ -1,6 +1,6 @@
 //! Values of one type off the wire.
 
-ghost use Rattle.std.specs.Prelude.{◌≡◌, ℕ, ◌≤◌, None, IsErrOf};
+ghost use Rattle.std.specs.Prelude.{◌≡◌, ℕ, ◌≤◌, None, IsErrOf, ⊤};
 ghost use Rattle.hms_outside.specs.Causes.{Rose};
 ghost use Rattle.ms_structs.specs.Getting.{Gets};
 ghost use Rattle.thrift_binary.specs.Tree.{Wire};
@@ -33,7 +33,7 @@ pub trait FromWire: Drop {
         ensures same_source { reader.new.source.ghost_name ≡ reader.old.source.ghost_name }
         ensures later { S.faults reader.old.source.now ≤ S.faults reader.new.source.now }
         ensures cause { reader.old.progress.fault ≡ None → IsErrOf result WireFault.ReadFault → Rose (S.faults reader.old.source.now) (S.faults reader.new.source.now) }
-        ensures reads { Gets (S.left reader.old.source.now) (S.left reader.new.source.now) reader.old.progress reader.new.progress result (λ got bytes. (w : Wire) × IsWire w reader.old.progress.room CODE bytes × (got ≡ means w)) (StopsWire reader.old.progress.room CODE) };
+        ensures reads { Gets (S.left reader.old.source.now) (S.left reader.new.source.now) reader.old.progress reader.new.progress result (λ w. IsWire w reader.old.progress.room CODE) (λ w got. got ≡ means w) (StopsWire reader.old.progress.room CODE) };
 }
 
 /// Reads a value of the type with this code, or skips it where a `T` has another code.
@@ -46,7 +46,7 @@ pub fn read_typed<T: FromWire, S: Source>(
     ensures same_source { reader.new.source.ghost_name ≡ reader.old.source.ghost_name }
     ensures later { S.faults reader.old.source.now ≤ S.faults reader.new.source.now }
     ensures cause { reader.old.progress.fault ≡ None → IsErrOf result WireFault.ReadFault → Rose (S.faults reader.old.source.now) (S.faults reader.new.source.now) }
-    ensures reads { Gets (S.left reader.old.source.now) (S.left reader.new.source.now) reader.old.progress reader.new.progress result (λ got bytes. (w : Wire) × IsWire w reader.old.progress.room ty bytes × (got ≡ typed T.CODE T.means ty w)) (StopsWire reader.old.progress.room ty) }
+    ensures reads { Gets (S.left reader.old.source.now) (S.left reader.new.source.now) reader.old.progress reader.new.progress result (λ w. IsWire w reader.old.progress.room ty) (λ w got. got ≡ typed T.CODE T.means ty w) (StopsWire reader.old.progress.room ty) }
 {
     if ty == T::CODE {
         return T::read(alloc, reader);
@@ -61,7 +61,7 @@ pub fn skip_field<S: Source>(reader: &mut WireReader<'_, S>, ty: u8) -> Result<(
     ensures same_source { reader.new.source.ghost_name ≡ reader.old.source.ghost_name }
     ensures later { S.faults reader.old.source.now ≤ S.faults reader.new.source.now }
     ensures cause { reader.old.progress.fault ≡ None → IsErrOf result WireFault.ReadFault → Rose (S.faults reader.old.source.now) (S.faults reader.new.source.now) }
-    ensures reads { Gets (S.left reader.old.source.now) (S.left reader.new.source.now) reader.old.progress reader.new.progress result (λ _ bytes. (w : Wire) × IsWire w reader.old.progress.room ty bytes) (StopsWire reader.old.progress.room ty) }
+    ensures reads { Gets (S.left reader.old.source.now) (S.left reader.new.source.now) reader.old.progress reader.new.progress result (λ w. IsWire w reader.old.progress.room ty) (λ _ _. ⊤) (StopsWire reader.old.progress.room ty) }
 {
     reader.skip(ty)
 }
@@ -78,7 +78,7 @@ impl<T: FromWire> Got<T> {
         ensures same_source { reader.new.source.ghost_name ≡ reader.old.source.ghost_name }
         ensures later { S.faults reader.old.source.now ≤ S.faults reader.new.source.now }
         ensures cause { reader.old.progress.fault ≡ None → IsErrOf result WireFault.ReadFault → Rose (S.faults reader.old.source.now) (S.faults reader.new.source.now) }
-        ensures reads { Gets (S.left reader.old.source.now) (S.left reader.new.source.now) reader.old.progress reader.new.progress result (λ _ bytes. (w : Wire) × IsWire w reader.old.progress.room ty bytes × (self.new ≡ over (typed T.CODE T.means ty w) self.old)) (StopsWire reader.old.progress.room ty) }
+        ensures reads { Gets (S.left reader.old.source.now) (S.left reader.new.source.now) reader.old.progress reader.new.progress result (λ w. IsWire w reader.old.progress.room ty) (λ w _. self.new ≡ over (typed T.CODE T.means ty w) self.old) (StopsWire reader.old.progress.room ty) }
     {
         self.put(read_typed::<T, S>(alloc, reader, ty)?);
         Ok(())

@@ -63,7 +63,7 @@ fn read_items<T: FromWire, S: Source>(
     ensures same_source { reader.new.source.ghost_name ≡ reader.old.source.ghost_name }
     ensures later { S.faults reader.old.source.now ≤ S.faults reader.new.source.now }
     ensures cause { reader.old.progress.fault ≡ None → IsErrOf result WireFault.ReadFault → Rose (S.faults reader.old.source.now) (S.faults reader.new.source.now) }
-    ensures reads { Gets (S.left reader.old.source.now) (S.left reader.new.source.now) reader.old.progress reader.new.progress result (λ items bytes. (es : Elements) × AreElements es reader.old.progress.room ty bytes × (elements_count es ≡ count) × (items ≡ fold_elements (λ so w. with_item so (typed T.CODE T.means ty w)) (Some []) es)) (StopsElements reader.old.progress.room ty count) }
+    ensures reads { Gets (S.left reader.old.source.now) (S.left reader.new.source.now) reader.old.progress reader.new.progress result (λ es bytes. AreElements es reader.old.progress.room ty bytes × (elements_count es ≡ count)) (λ es items. items ≡ fold_elements (λ so w. with_item so (typed T.CODE T.means ty w)) (Some []) es) (StopsElements reader.old.progress.room ty count) }
 {
     let mut items = Some(ListOf::new(alloc));
     for _ in 0..count {

@@ -75,7 +75,7 @@ fn read_pairs<K: FromWire + Ord, V: FromWire, S: Source>(
     ensures same_source { reader.new.source.ghost_name ≡ reader.old.source.ghost_name }
     ensures later { S.faults reader.old.source.now ≤ S.faults reader.new.source.now }
     ensures cause { reader.old.progress.fault ≡ None → IsErrOf result WireFault.ReadFault → Rose (S.faults reader.old.source.now) (S.faults reader.new.source.now) }
-    ensures reads { Gets (S.left reader.old.source.now) (S.left reader.new.source.now) reader.old.progress reader.new.progress result (λ pairs bytes. (ps : Entries) × AreEntries ps reader.old.progress.room key_type value_type bytes × (entries_count ps ≡ count) × (pairs ≡ fold_entries (λ so k w. with_pair K.cmp so (typed K.CODE K.means key_type k) (typed V.CODE V.means value_type w)) no_pairs ps)) (StopsEntries reader.old.progress.room key_type value_type count) }
+    ensures reads { Gets (S.left reader.old.source.now) (S.left reader.new.source.now) reader.old.progress reader.new.progress result (λ ps bytes. AreEntries ps reader.old.progress.room key_type value_type bytes × (entries_count ps ≡ count)) (λ ps pairs. pairs ≡ fold_entries (λ so k w. with_pair K.cmp so (typed K.CODE K.means key_type k) (typed V.CODE V.means value_type w)) no_pairs ps) (StopsEntries reader.old.progress.room key_type value_type count) }
 {
     let mut pairs = Some(PairsSoFar::new(alloc));
     for _ in 0..count {
@@ -100,7 +100,7 @@ fn read_pair<K: FromWire, V: FromWire, S: Source>(
     ensures same_source { reader.new.source.ghost_name ≡ reader.old.source.ghost_name }
     ensures later { S.faults reader.old.source.now ≤ S.faults reader.new.source.now }
     ensures cause { reader.old.progress.fault ≡ None → IsErrOf result WireFault.ReadFault → Rose (S.faults reader.old.source.now) (S.faults reader.new.source.now) }
-    ensures reads { Gets (S.left reader.old.source.now) (S.left reader.new.source.now) reader.old.progress reader.new.progress result (λ got bytes. (k w : Wire) × IsPairOf reader.old.progress.room key_type value_type k w bytes × ((got.0 ≡ typed K.CODE K.means key_type k) × (got.1 ≡ typed V.CODE V.means value_type w))) (StopsPairOf reader.old.progress.room key_type value_type) }
+    ensures reads { Gets (S.left reader.old.source.now) (S.left reader.new.source.now) reader.old.progress reader.new.progress result (λ (pair : Wire × Wire). IsPairOf reader.old.progress.room key_type value_type pair.0 pair.1) (λ pair got. (got.0 ≡ typed K.CODE K.means key_type pair.0) × (got.1 ≡ typed V.CODE V.means value_type pair.1)) (StopsPairOf reader.old.progress.room key_type value_type) }
 {
     let key = read_typed::<K, S>(alloc, reader, key_type)?;
     let value = read_typed::<V, S>(alloc, reader, value_type)?;

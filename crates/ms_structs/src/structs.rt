@@ -3,7 +3,7 @@
 ghost use Rattle.std.specs.Prelude.{◌≡◌, ℕ, ℤ, ◌≤◌, Option, None, IsErrOf};
 ghost use Rattle.hms_outside.specs.Causes.{Rose};
 ghost use Rattle.ms_structs.specs.Getting.{Gets, Makes};
-ghost use Rattle.thrift_binary.specs.Tree.{Fields, Struct, Wire};
+ghost use Rattle.thrift_binary.specs.Tree.{Struct, Wire};
 ghost use Rattle.thrift_binary.specs.Wire.{IsCode, IsStruct, IsWire, StopsFields, StopsWire};
 ghost use Rattle.ms_structs.specs.declared.got.Got.{Got};
 ghost use Rattle.ms_structs.specs.Slots.{fold_fields, made_of, struct_of};
@@ -47,7 +47,7 @@ pub trait FieldSink: Drop {
         ensures same_source { reader.new.source.ghost_name ≡ reader.old.source.ghost_name }
         ensures later { S.faults reader.old.source.now ≤ S.faults reader.new.source.now }
         ensures cause { reader.old.progress.fault ≡ None → IsErrOf result WireFault.ReadFault → Rose (S.faults reader.old.source.now) (S.faults reader.new.source.now) }
-        ensures reads { Gets (S.left reader.old.source.now) (S.left reader.new.source.now) reader.old.progress reader.new.progress result (λ _ bytes. (w : Wire) × IsWire w reader.old.progress.room ty bytes × (self.new ≡ set self.old ty id w)) (StopsWire reader.old.progress.room ty) };
+        ensures reads { Gets (S.left reader.old.source.now) (S.left reader.new.source.now) reader.old.progress reader.new.progress result (λ w. IsWire w reader.old.progress.room ty) (λ w _. self.new ≡ set self.old ty id w) (StopsWire reader.old.progress.room ty) };
 }
 
 // Reads the fields of a struct up to its end.
@@ -60,7 +60,7 @@ fn read_fields<F: FieldSink, S: Source>(
     ensures same_source { reader.new.source.ghost_name ≡ reader.old.source.ghost_name }
     ensures later { S.faults reader.old.source.now ≤ S.faults reader.new.source.now }
     ensures cause { reader.old.progress.fault ≡ None → IsErrOf result WireFault.ReadFault → Rose (S.faults reader.old.source.now) (S.faults reader.new.source.now) }
-    ensures reads { Gets (S.left reader.old.source.now) (S.left reader.new.source.now) reader.old.progress reader.new.progress result (λ _ bytes. (v : Fields) × IsStruct reader.old.progress.room v bytes × (slots.new ≡ fold_fields F.set slots.old v)) (StopsFields reader.old.progress.room) }
+    ensures reads { Gets (S.left reader.old.source.now) (S.left reader.new.source.now) reader.old.progress reader.new.progress result (λ v. IsStruct reader.old.progress.room v) (λ v _. slots.new ≡ fold_fields F.set slots.old v) (StopsFields reader.old.progress.room) }
 {
     loop {
         match reader.field()? {
@@ -78,7 +78,7 @@ pub fn read_slots<F: FieldSink, S: Source>(
     ensures same_source { reader.new.source.ghost_name ≡ reader.old.source.ghost_name }
     ensures later { S.faults reader.old.source.now ≤ S.faults reader.new.source.now }
     ensures cause { reader.old.progress.fault ≡ None → IsErrOf result WireFault.ReadFault → Rose (S.faults reader.old.source.now) (S.faults reader.new.source.now) }
-    ensures reads { Gets (S.left reader.old.source.now) (S.left reader.new.source.now) reader.old.progress reader.new.progress result (λ slots bytes. (v : Fields) × IsWire (Struct v) reader.old.progress.room 12 bytes × (slots ≡ fold_fields F.set F.none v)) (StopsWire reader.old.progress.room 12) }
+    ensures reads { Gets (S.left reader.old.source.now) (S.left reader.new.source.now) reader.old.progress reader.new.progress result (λ v. IsWire (Struct v) reader.old.progress.room 12) (λ v slots. slots ≡ fold_fields F.set F.none v) (StopsWire reader.old.progress.room 12) }
 {
     reader.open()?;
     let mut slots = F::empty();
@@ -95,7 +95,7 @@ pub fn read_struct<F: FieldSink, S: Source>(
     ensures same_source { reader.new.source.ghost_name ≡ reader.old.source.ghost_name }
     ensures later { S.faults reader.old.source.now ≤ S.faults reader.new.source.now }
     ensures cause { reader.old.progress.fault ≡ None → IsErrOf result WireFault.ReadFault → Rose (S.faults reader.old.source.now) (S.faults reader.new.source.now) }
-    ensures reads { Gets (S.left reader.old.source.now) (S.left reader.new.source.now) reader.old.progress reader.new.progress result (λ got bytes. (w : Wire) × IsWire w reader.old.progress.room 12 bytes × (got ≡ struct_of F.whole F.set F.none w)) (StopsWire reader.old.progress.room 12) }
+    ensures reads { Gets (S.left reader.old.source.now) (S.left reader.new.source.now) reader.old.progress reader.new.progress result (λ w. IsWire w reader.old.progress.room 12) (λ w got. got ≡ struct_of F.whole F.set F.none w) (StopsWire reader.old.progress.room 12) }
 {
     let slots = read_slots::<F, S>(alloc, reader)?;
     Ok(said_or_bad(slots.finish(alloc)))

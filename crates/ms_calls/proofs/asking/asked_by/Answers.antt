@@ -8,14 +8,14 @@ use Rattle.ms_calls.proofs.asking.asked_by.Goals as goal
 pub returns-in-Some-SetUgi-clause-reads : goal.returns-in-Some-SetUgi-clause-reads
 returns-in-Some-SetUgi-clause-reads g c =
     let m : c.args.method ≡ Some method.SetUgi = search rules in
-    gets_weaker _ _ _ _ _ _ _ _ (λ asked bytes h. (h.0, h.1, h.2 ∙ user_asked h.0 ∙ ap (λ x. asked_by x h.0) (sym m))) c.read_arguments.ensures.reads
+    gets_weaker _ _ _ _ _ _ _ _ _ (λ v asked says. says ∙ user_asked v ∙ ap (λ x. asked_by x v) (sym m)) c.read_arguments.ensures.reads
 
 pub returns-in-Some-CreateDatabase-clause-reads : goal.returns-in-Some-CreateDatabase-clause-reads
 returns-in-Some-CreateDatabase-clause-reads g c =
     let m : c.args.method ≡ Some method.CreateDatabase = search rules in
-    gets_weaker _ _ _ _ _ _ _ _ (λ asked bytes h. (h.0, h.1, h.2 ∙ db_asked h.0 ∙ ap (λ x. asked_by x h.0) (sym m))) c.read_arguments-in-Some-CreateDatabase.ensures.reads
+    gets_weaker _ _ _ _ _ _ _ _ _ (λ v asked says. says ∙ db_asked v ∙ ap (λ x. asked_by x v) (sym m)) c.read_arguments-in-Some-CreateDatabase.ensures.reads
 
 pub returns-in-Some-GetDatabase-clause-reads : goal.returns-in-Some-GetDatabase-clause-reads
 returns-in-Some-GetDatabase-clause-reads g c =
     let m : c.args.method ≡ Some method.GetDatabase = search rules in
-    gets_weaker _ _ _ _ _ _ _ _ (λ asked bytes h. (h.0, h.1, h.2 ∙ name_asked h.0 ∙ ap (λ x. asked_by x h.0) (sym m))) c.read_arguments-in-Some-GetDatabase.ensures.reads
+    gets_weaker _ _ _ _ _ _ _ _ _ (λ v asked says. says ∙ name_asked v ∙ ap (λ x. asked_by x v) (sym m)) c.read_arguments-in-Some-GetDatabase.ensures.reads

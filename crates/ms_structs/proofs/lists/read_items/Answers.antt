@@ -6,7 +6,7 @@ use Rattle.thrift_binary.specs.Tree.{Wire}
 use Rattle.ms_structs.specs.Slots.{typed}
 use Rattle.ms_structs.specs.Values.{fold_elements, with_item}
 use Rattle.ms_structs.proofs.Getting.{refused_there}
-use Rattle.ms_structs.proofs.ElementsSoFar.{SomeElements, elements_none, elements_more, elements_stop, fold_push_element}
+use Rattle.ms_structs.proofs.ElementsSoFar.{SomeElements, elements_none, elements_more, elements_stop, some_begun, fold_push_element}
 use Rattle.ms_structs.proofs.lists.read_items.Goals as goal
 
 pub loop-init : goal.loop-init
@@ -15,7 +15,7 @@ loop-init g c = record { same_source = refl; later = omega arith; so_far = eleme
 pub returns-in_err-item-clause-reads : goal.returns-in_err-item-clause-reads
 returns-in_err-item-clause-reads g c =
     let p = err_from_is_err_and c.from_residual.result c.from_residual.ensures.1 in
-    rw (p.1, p.2) (elements_stop _ _ _ _ _ _ c.args.ty c.loop.counter c.args.count _ c.in_err-item.field-0.0 c.loop-test.true c.loop.invariant.so_far c.in_err-item.ensures.reads)
+    rw (p.1, p.2) (elements_stop _ _ _ _ _ _ c.args.ty c.loop.counter c.args.count _ c.in_err-item.field-0.0 c.requires.code c.loop-test.true c.loop.invariant.so_far c.in_err-item.ensures.reads)
 
 pub loop-preserved : goal.loop-preserved
 loop-preserved g c =
@@ -29,7 +29,7 @@ loop-preserved g c =
 
 pub returns-in-Err-clause-reads : goal.returns-in-Err-clause-reads
 returns-in-Err-clause-reads g c =
-    refused_there _ _ _ _ _ _ _ _ _ (elements_more _ _ _ _ _ _ c.args.ty c.loop.counter (c.loop.counter + 1) _ (λ _. ⊤) _ (omega arith) (λ es w so says. tt) c.loop.invariant.so_far c.in_ok-item.ensures.reads)
+    refused_there _ _ _ _ _ _ _ _ _ _ (some_begun _ c.args.ty (c.loop.counter + 1) c.args.count _ c.requires.code (omega (arith, c.loop-test.true))) (elements_more _ _ _ _ _ _ c.args.ty c.loop.counter (c.loop.counter + 1) _ (λ _. ⊤) _ (omega arith) (λ es w so says. tt) c.loop.invariant.so_far c.in_ok-item.ensures.reads)
     (ap g.S.Source.left c.refused.ensures.source) c.refused.ensures.kept c.refused.ensures.same
 
 pub returns-clause-reads : goal.returns-clause-reads

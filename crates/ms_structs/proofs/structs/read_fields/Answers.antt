@@ -1,4 +1,4 @@
-use Rattle.std.proofs.Common.{◌≡◌, refl, ap, ◌∙◌, sym, arith, rules, None, Some, inl, w16, to_z, of_z}
+use Rattle.std.proofs.Common.{◌≡◌, refl, ap, ◌∙◌, sym, arith, rules, None, Some, w16, to_z, of_z}
 use mir.Val.{SFits}
 use Rattle.std.proofs.lemmas.Int.{to_z-of_z}
 use Rattle.std.proofs.lemmas.Result.{err_from_is_err_and}
@@ -11,7 +11,7 @@ loop-ty-init g c = record { same_source = refl; later = omega arith; so_far = fi
 pub returns-in_err-field-clause-reads : goal.returns-in_err-field-clause-reads
 returns-in_err-field-clause-reads g c =
     let p = err_from_is_err_and c.from_residual.result c.from_residual.ensures.1 in
-    rw (p.1, p.2) (fields_stop_head _ _ _ _ _ _ _ c.in_err-field.field-0.0 c.loop-ty.invariant.so_far (inl c.in_err-field.ensures.reads))
+    rw (p.1, p.2) (fields_stop_head _ _ _ _ _ _ _ c.in_err-field.field-0.0 c.loop-ty.invariant.so_far c.in_err-field.ensures.reads)
 
 pub returns-in-None-clause-reads : goal.returns-in-None-clause-reads
 returns-in-None-clause-reads g c = fields_end _ _ _ _ _ _ _ c.loop-ty.invariant.so_far (head_is _ _ _ _ _ None c.in-None.is c.in_ok-field.ensures.reads)

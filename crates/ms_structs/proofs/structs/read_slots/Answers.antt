@@ -8,7 +8,7 @@ use Rattle.ms_structs.proofs.structs.read_slots.Goals as goal
 pub returns-in_err-open-clause-reads : goal.returns-in_err-open-clause-reads
 returns-in_err-open-clause-reads g c =
     let p = err_from_is_err_and c.from_residual.result c.from_residual.ensures.1 in
-    rw (p.1, p.2) (open_stop _ _ _ _ c.in_err-open.field-0.0 12 (inl refl) c.in_err-open.ensures.opens)
+    rw (p.1, p.2) (open_stop _ _ _ _ c.in_err-open.field-0.0 12 _ (inl refl) c.in_err-open.ensures.opens)
 
 pub returns-in_err-read_fields-clause-reads : goal.returns-in_err-read_fields-clause-reads
 returns-in_err-read_fields-clause-reads g c =

@@ -9,4 +9,4 @@ pub returns-in_default-clause-reads : goal.returns-in_default-clause-reads
 returns-in_default-clause-reads g c =
     let k1 : int_eq c.args.id (pos 1) ≡ false = ne_int_eq c.args.id (pos 1) (omega (arith, ints)) in
     let k2 : int_eq c.args.id (pos 2) ≡ false = ne_int_eq c.args.id (pos 2) (omega (arith, ints)) in
-    gets_weaker _ _ _ _ _ _ _ _ (λ v bytes h. (h.0, h.1, rw (k1, k2) refl)) c.skip_field.ensures.reads
+    gets_weaker _ _ _ _ _ _ _ _ _ (λ w v h. rw (k1, k2) refl) c.skip_field.ensures.reads

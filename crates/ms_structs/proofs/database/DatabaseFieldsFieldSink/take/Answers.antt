@@ -12,4 +12,4 @@ returns-in_default-clause-reads g c =
     let k3 : int_eq c.args.id (pos 3) ≡ false = ne_int_eq c.args.id (pos 3) (omega (arith, ints)) in
     let k4 : int_eq c.args.id (pos 4) ≡ false = ne_int_eq c.args.id (pos 4) (omega (arith, ints)) in
     let k6 : int_eq c.args.id (pos 6) ≡ false = ne_int_eq c.args.id (pos 6) (omega (arith, ints)) in
-    gets_weaker _ _ _ _ _ _ _ _ (λ v bytes h. (h.0, h.1, rw (k1, k2, k3, k4, k6) refl)) c.skip_field.ensures.reads
+    gets_weaker _ _ _ _ _ _ _ _ _ (λ w v h. rw (k1, k2, k3, k4, k6) refl) c.skip_field.ensures.reads

@@ -1,4 +1,4 @@
-use Rattle.std.proofs.Common.{inl, w32, rules}
+use Rattle.std.proofs.Common.{w32, rules}
 use mir.Val.{SFits}
 use Rattle.std.proofs.lemmas.Int.{to_z-of_z}
 use Rattle.std.proofs.lemmas.Result.{err_from_is_err_and}
@@ -10,7 +10,7 @@ use Rattle.ms_structs.proofs.from_wire.I32FromWire.read.Goals as goal
 pub returns-in_err-int-clause-reads : goal.returns-in_err-int-clause-reads
 returns-in_err-int-clause-reads g c =
     let p = err_from_is_err_and c.from_residual.result c.from_residual.ensures.1 in
-    rw (p.1, p.2) (fails_again _ _ _ _ c.in_err-int.field-0.0 _ _ (stops_int c.args.reader.now.progress.room) (inl c.in_err-int.ensures.reads))
+    rw (p.1, p.2) (fails_again _ _ _ _ c.in_err-int.field-0.0 _ _ _ (stops_int c.args.reader.now.progress.room) c.in_err-int.ensures.reads)
 
 pub returns-clause-reads : goal.returns-clause-reads
 returns-clause-reads g c =

@@ -1,4 +1,4 @@
-use Rattle.std.proofs.Common.{ap, inl}
+use Rattle.std.proofs.Common.{ap}
 use Rattle.std.proofs.lemmas.Result.{err_from_is_err_and}
 use Rattle.ms_structs.proofs.ElementsSoFar.{list_stop_head, list_stop, list_took, items_judged}
 use Rattle.ms_structs.proofs.lists.ListOfFromWire.read.Goals as goal
@@ -6,7 +6,7 @@ use Rattle.ms_structs.proofs.lists.ListOfFromWire.read.Goals as goal
 pub returns-in_err-ty-clause-reads : goal.returns-in_err-ty-clause-reads
 returns-in_err-ty-clause-reads g c =
     let p = err_from_is_err_and c.from_residual-in_err-ty.result c.from_residual-in_err-ty.ensures.1 in
-    rw (p.1, p.2) (list_stop_head _ _ _ _ _ _ c.in_err-ty.field-0.0 c.in_ok-open.ensures.opens (inl c.in_err-ty.ensures.reads))
+    rw (p.1, p.2) (list_stop_head _ _ _ _ _ _ c.in_err-ty.field-0.0 c.in_ok-open.ensures.opens c.in_err-ty.ensures.reads)
 
 pub returns-in_err-items-clause-reads : goal.returns-in_err-items-clause-reads
 returns-in_err-items-clause-reads g c =

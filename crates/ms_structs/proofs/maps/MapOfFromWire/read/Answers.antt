@@ -1,4 +1,4 @@
-use Rattle.std.proofs.Common.{ap, inl}
+use Rattle.std.proofs.Common.{ap}
 use Rattle.std.proofs.lemmas.Result.{err_from_is_err_and}
 use Rattle.ms_structs.proofs.EntriesSoFar.{map_stop_head, map_stop, map_took, pairs_judged}
 use Rattle.ms_structs.proofs.maps.MapOfFromWire.read.Goals as goal
@@ -6,7 +6,7 @@ use Rattle.ms_structs.proofs.maps.MapOfFromWire.read.Goals as goal
 pub returns-in_err-key_type-clause-reads : goal.returns-in_err-key_type-clause-reads
 returns-in_err-key_type-clause-reads g c =
     let p = err_from_is_err_and c.from_residual-in_err-key_type.result c.from_residual-in_err-key_type.ensures.1 in
-    rw (p.1, p.2) (map_stop_head _ _ _ _ _ _ c.in_err-key_type.field-0.0 c.in_ok-open.ensures.opens (inl c.in_err-key_type.ensures.reads))
+    rw (p.1, p.2) (map_stop_head _ _ _ _ _ _ c.in_err-key_type.field-0.0 c.in_ok-open.ensures.opens c.in_err-key_type.ensures.reads)
 
 pub returns-in_err-pairs-clause-reads : goal.returns-in_err-pairs-clause-reads
 returns-in_err-pairs-clause-reads g c =
