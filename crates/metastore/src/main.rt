@@ -1,7 +1,7 @@
 //! The metastore's program: `metastore STORE DUMPS COMMAND ..`.
 #![tactic(auto)]
 
-use hms_outside::{MemClock, MemDisk, MemFolder, StreamSink, StreamSource};
+use hms_outside::{MemDisk, MemFolder, StreamSink, StreamSource, SystemClock};
 use ms_cli::{LocalEnd, run_local};
 use std::alloc::{AllocError, Global};
 use std::env;
@@ -21,7 +21,7 @@ fn main(rt: HostRuntime) -> ExitCode {
     let mut output = StreamSink::new(alloc, rt.stdout());
     let mut errors = StreamSink::new(alloc, rt.stderr());
     let mut folder = MemFolder::new(alloc, Vec::new(alloc));
-    let mut clock = MemClock::new(Vec::new(alloc));
+    let mut clock = SystemClock::new(&rt);
     let LocalEnd {
         status,
         disk_a: _,

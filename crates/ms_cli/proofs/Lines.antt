@@ -29,6 +29,8 @@ lines a b (Err e) line told = inr told
 pub tells : {T E : Type 0} (a b : Option Held) (result : Result T E) (end : End) → TellsEnd end result a b → Tells end a b
 tells a b (Ok x) ended.Done told = told
 tells a b (Err e) ended.Done told = absurd told
+tells a b (Ok x) ended.Shutdown told = told
+tells a b (Err e) ended.Shutdown told = absurd told
 tells a b result (ended.Truncated place) told = lines a b result (line_of (ended.Truncated place)) told
 tells a b result (ended.BadWire code place) told = lines a b result (line_of (ended.BadWire code place)) told
 tells a b result (ended.TooLarge place) told = lines a b result (line_of (ended.TooLarge place)) told

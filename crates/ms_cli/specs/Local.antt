@@ -7,7 +7,7 @@ use Rattle.desk.specs.History.{Entry, Legal, Start}
 use Rattle.desk.specs.State.{start}
 use Rattle.ms_session.specs.Session.{Met, Session}
 use Rattle.ms_session.specs.declared.end.End.{End}
-use Rattle.ms_session.specs.declared.end.End.TheVariants.{Done, Truncated, BadWire, TooLarge, ReadFault, WriteFault, NoMemory}
+use Rattle.ms_session.specs.declared.end.End.TheVariants.{Done, Shutdown, Truncated, BadWire, TooLarge, ReadFault, WriteFault, NoMemory}
 
 -- the words are the one command that there is
 abbrev pub IsPipe : List (List ℕ) → Type 0
@@ -16,6 +16,7 @@ IsPipe words = words ≡ codes "pipe" ∷ []
 -- the status of a session's end
 abbrev pub status_of : End → ℕ
 status_of Done = 0
+status_of Shutdown = 0
 status_of (Truncated place) = 7
 status_of (BadWire code place) = 7
 status_of (TooLarge place) = 7
@@ -26,6 +27,7 @@ status_of NoMemory = 10
 -- the line that tells a session's end; a good end has none
 abbrev pub line_of : End → List ℕ
 line_of Done = []
+line_of Shutdown = []
 line_of (Truncated place) = codes "wire: truncated at " ++ decimal place ++ 10 ∷ []
 line_of (BadWire code place) = codes "wire: bad " ++ (decimal code ++ (codes " at " ++ (decimal place ++ 10 ∷ [])))
 line_of (TooLarge place) = codes "wire: too large at " ++ decimal place ++ 10 ∷ []
@@ -44,6 +46,7 @@ Lines line old new = Goes (Sent line) old new ⊎ ((n : ℕ) × Goes (Grew (take
 -- an end was told; a good end leaves the sink of errors
 abbrev pub Tells : End → Option Held → Option Held → Type 0
 Tells Done old new = Goes Same old new
+Tells Shutdown old new = Goes Same old new
 Tells end old new = Lines (line_of end) old new
 
 -- a call that tells a line: after Ok it was added whole and flushed, and after an Err a front of it was added
@@ -57,6 +60,7 @@ TellsNothing result old new = MatchResult result (λ _. ⊥) (λ _. Goes Same ol
 -- a call that tells an end: a good one has no line, and the call is an Ok
 abbrev pub TellsEnd : {T E : Type 0} → End → Result T E → Option Held → Option Held → Type 0
 TellsEnd Done result old new = MatchResult result (λ _. Goes Same old new) (λ _. ⊥)
+TellsEnd Shutdown result old new = MatchResult result (λ _. Goes Same old new) (λ _. ⊥)
 TellsEnd end result old new = TellsLine (line_of end) result old new
 
 -- the store that the command begins with: a new one, whose id is sixteen zeros and whose events are numbered from 1

@@ -25,7 +25,8 @@ pub struct LocalEnd<D> {
 /// `input` on `output`, over a new store in memory, whose one caller it is. Each call of the
 /// catalogue is one step of that store, at the clock's next moment.
 ///
-/// The status is 0 where the whole input was messages; 2 where the words are no command; 3 where
+/// The status is 0 where the whole input was messages, or a message asked for the end of the session,
+/// behind which nothing is read; 2 where the words are no command; 3 where
 /// the input failed, and 4 where the output did; 7 where the input stops being messages; 10 where
 /// memory was refused. `errors` gains a line that tells any status but 0. The disks and the folder
 /// are not used yet.
@@ -120,7 +121,7 @@ fn status(end: End) -> u8
     ensures { result ≡ status_of end }
 {
     match end {
-        End::Done => 0,
+        End::Done | End::Shutdown => 0,
         End::ReadFault => 3,
         End::WriteFault => 4,
         End::Truncated(_) | End::BadWire(_, _) | End::TooLarge(_) => 7,

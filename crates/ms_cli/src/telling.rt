@@ -15,7 +15,7 @@ pub fn tell<E: Sink>(alloc: Global, errors: &mut E, end: End) -> Result<(), Outa
     ensures cause { IsErrOf result Outage.Failed → Rose (E.faults errors.old) (E.faults errors.new) }
 {
     match end {
-        End::Done => Ok(()),
+        End::Done | End::Shutdown => Ok(()),
         End::Truncated(place) => {
             tell_text(errors, format!(in alloc; "wire: truncated at {place}\n"))
         }

@@ -1,25 +1,27 @@
 -- A caller alone at a new store.
-use Rattle.std.proofs.Common.{◌≡◌, ℕ, ◌⊎◌, Bool, true, false, List, [], ◌∷◌, ◌++◌, map, codes, refl, sym, ◌∙◌, ap, subst, inl, inr}
+use Rattle.std.proofs.Common.{◌≡◌, ℕ, ◌⊎◌, Bool, true, false, List, [], ◌∷◌, ◌++◌, map, codes, Option, Some, None, is_some, refl, sym, ◌∙◌, ap, subst, inl, inr}
 use Rattle.std.specs.Prelude.{cond}
 use Rattle.std.proofs.lemmas.Bool.{false≢true}
 use Rattle.std.specs.List.{AllByRecursion, flat_map}
 use Rattle.std.specs.Map.{keys_of}
-use Rattle.std.specs.Str.{bytes_eq}
-use Rattle.cat_types.specs.declared.calls.Call.TheVariants.{GetAllDatabases}
+use Rattle.cat_types.specs.declared.calls.Call.{Call}
+use Rattle.cat_types.specs.declared.calls.Call.TheVariants.{CreateDatabase, GetAllDatabases, GetDatabase}
 use Rattle.cat_types.specs.declared.replies.Reply.{Reply}
 use Rattle.cat_types.specs.declared.replies.Reply.TheVariants.{Names}
 use Rattle.cat_types.specs.declared.steps.Answer.{Answer}
 use Rattle.cat_types.specs.declared.steps.Answer.TheVariants as answer
 use Rattle.cat_types.specs.declared.steps.Step.{Step}
 use Rattle.cat_types.specs.declared.steps.Step.TheVariants as step
-use Rattle.catalogue.specs.Catalogue.{Catalogue, new_catalogue}
+use Rattle.catalogue.specs.Catalogue.{Catalogue, database, new_catalogue}
+use Rattle.catalogue.specs.Rules.{decided_as, lower}
 use Rattle.desk.specs.History.{Entry, IsLegal, MayAnswer, MayFollow, Place, is_refused, next, place_of, took}
-use Rattle.desk.specs.State.{State, due, start}
-use Rattle.ms_session.specs.Laws.{AloneListsDefault, AnsweredPlainly}
-use Rattle.ms_calls.specs.Refusals.{out_of_memory, unknown_method}
-use Rattle.ms_session.specs.Replies.{asked_by}
+use Rattle.desk.specs.State.{State, due, due_by, start}
+use Rattle.ms_calls.specs.declared.request.Asked.{Asked}
+use Rattle.ms_calls.specs.declared.request.Asked.TheVariants as ask
+use Rattle.ms_calls.specs.Refusals.{out_of_memory}
+use Rattle.ms_session.specs.Laws.{AloneListsDefault, Lists, MakesNone}
+use Rattle.ms_session.specs.Requests.{asks}
 use Rattle.ms_session.specs.Turns.{Due, IsTurn, Turn, reply_to}
-use Rattle.ms_session.specs.declared.asking.Asked.TheVariants.{Client, Unknown}
 
 abbrev names : List (List ℕ)
 names = codes "default" ∷ []
@@ -30,19 +32,28 @@ listed p caller moment fault answer.NoMemory new may = inr refl
 listed p caller moment fault answer.StoreFault new may = absurd (false≢true may.0)
 listed p caller moment fault (answer.Reply r) new may = inl (ap reply_to may ∙ ap (λ (cat : Catalogue). Names (keys_of cat.databases)) new)
 
--- and leaves the catalogue
-left_as_it_was : (p : Place) (caller moment : ℕ) (a : Answer) → cond (is_refused a) p.state (due p.state caller (step.Client GetAllDatabases moment)).state ≡ p.state
-left_as_it_was p caller moment answer.NoMemory = refl
-left_as_it_was p caller moment answer.StoreFault = refl
-left_as_it_was p caller moment (answer.Reply r) = refl
+-- a call that makes no database leaves the state
+found_leaves : (there : Bool) (r : Reply) (state : State) (moment : ℕ) → (due_by (decided_as (cond there None (Some 2)) None r) state moment).state ≡ state
+found_leaves true r state moment = refl
+found_leaves false r state moment = refl
+
+due_leaves : (state : State) (caller : ℕ) (call : Call) (moment : ℕ) → MakesNone (ask.Client call) → (due state caller (step.Client call moment)).state ≡ state
+due_leaves state caller GetAllDatabases moment none = refl
+due_leaves state caller (GetDatabase name) moment none = found_leaves (is_some (database state.catalogue (lower name))) _ state moment
+due_leaves state caller (CreateDatabase db) moment none = absurd none
+
+left_as_it_was : (p : Place) (caller : ℕ) (call : Call) (moment : ℕ) (a : Answer) → MakesNone (ask.Client call) → cond (is_refused a) p.state (due p.state caller (step.Client call moment)).state ≡ p.state
+left_as_it_was p caller call moment answer.NoMemory none = refl
+left_as_it_was p caller call moment answer.StoreFault none = refl
+left_as_it_was p caller call moment (answer.Reply r) none = due_leaves p.state caller call moment none
+
+stays_new : (p : Place) (e : Entry) (call : Call) (moment : ℕ) → p.state.catalogue ≡ new_catalogue → e.0.step ≡ step.Client call moment → MakesNone (ask.Client call) → (next p (took e)).state.catalogue ≡ new_catalogue
+stays_new p e call moment new is none =
+    ap (λ (s : Step). (cond (is_refused e.1.answer) p.state (due p.state e.0.caller s).state).catalogue) is ∙ ap (λ (s : State). s.catalogue) (left_as_it_was p e.0.caller call moment e.1.answer none) ∙ new
 
 -- one entry that lists
-one_listing : (p : Place) (e : Entry) (moment : ℕ) → p.state.catalogue ≡ new_catalogue → e.0.step ≡ step.Client GetAllDatabases moment → MayFollow p (took e)
-    → ((reply_to e.1.answer ≡ Names names) ⊎ (reply_to e.1.answer ≡ out_of_memory)) × ((next p (took e)).state.catalogue ≡ new_catalogue)
-one_listing p e moment new is may = (
-  listed p e.0.caller moment e.1.fault e.1.answer new (subst (λ (s : Step). MayAnswer p e.0.caller s e.1.answer e.1.fault) is may.1),
-  ap (λ (s : Step). (cond (is_refused e.1.answer) p.state (due p.state e.0.caller s).state).catalogue) is ∙ ap (λ (s : State). s.catalogue) (left_as_it_was p e.0.caller moment e.1.answer) ∙ new,
-)
+one_listing : (p : Place) (e : Entry) (moment : ℕ) → p.state.catalogue ≡ new_catalogue → e.0.step ≡ step.Client GetAllDatabases moment → MayFollow p (took e) → (reply_to e.1.answer ≡ Names names) ⊎ (reply_to e.1.answer ≡ out_of_memory)
+one_listing p e moment new is may = listed p e.0.caller moment e.1.fault e.1.answer new (subst (λ (s : Step). MayAnswer p e.0.caller s e.1.answer e.1.fault) is may.1)
 
 -- what is sent in place of what is due is want of memory
 instead : (due reply wanted : Reply) → (due ≡ wanted) ⊎ (due ≡ out_of_memory) → (reply ≡ due) ⊎ (reply ≡ out_of_memory) → (reply ≡ wanted) ⊎ (reply ≡ out_of_memory)
@@ -51,26 +62,39 @@ instead due reply wanted (inl is) (inl same) = inl (same ∙ is)
 instead due reply wanted (inr none) (inl same) = inr (same ∙ none)
 
 -- one message, and where the history stands behind its entries
-one_turn : (p : Place) (turn : Turn) (more : List Entry) → p.state.catalogue ≡ new_catalogue → IsTurn turn → IsLegal p (map took (turn.entries ++ more))
-    → AnsweredPlainly names turn × ((q : Place) × (q.state.catalogue ≡ new_catalogue) × IsLegal q (map took more))
-unfolding asked_by
-one_turn p turn more new is legal = by_name (bytes_eq turn.message.head.name (codes "get_all_databases")) is.0 is.1 is.2
-  where
-    by_name : (b : Bool) (due : Reply) → Due (cond b (Client GetAllDatabases) Unknown) turn.entries due → (turn.reply ≡ due) ⊎ (turn.reply ≡ out_of_memory)
-        → ((turn.reply ≡ cond b (Names names) unknown_method) ⊎ (turn.reply ≡ out_of_memory)) × ((q : Place) × (q.state.catalogue ≡ new_catalogue) × IsLegal q (map took more))
-    by_name true due d which =
-        let all : IsLegal p (map took ((d.0 ∷ []) ++ more)) = subst (λ (es : List Entry). IsLegal p (map took (es ++ more))) d.2 legal in
-        let one = one_listing p d.0 d.1 new d.3 all.0 in
-        (instead due turn.reply (Names names) (subst (λ (r : Reply). (r ≡ Names names) ⊎ (r ≡ out_of_memory)) (sym d.4) one.0) which, (next p (took d.0), one.1, all.1))
-    by_name false due d which =
-        (instead due turn.reply unknown_method (inl d.1) which, (p, new, subst (λ (es : List Entry). IsLegal p (map took (es ++ more))) d.0 legal))
+abbrev Behind : List Entry → Type 0
+Behind more = (q : Place) × (q.state.catalogue ≡ new_catalogue) × IsLegal q (map took more)
 
-all_turns : (p : Place) (turns : List Turn) → p.state.catalogue ≡ new_catalogue → AllByRecursion IsTurn turns → IsLegal p (map took (flat_map (λ turn. turn.entries) turns)) → AllByRecursion (AnsweredPlainly names) turns
-all_turns p [] new each legal = tt
-all_turns p (t ∷ ts) new each legal =
-    let one = one_turn p t (flat_map (λ turn. turn.entries) ts) new each.0 legal in
-    (one.0, all_turns one.1.0 ts one.1.1 each.1 one.1.2)
+-- a call of the catalogue that makes no database
+one_call : (p : Place) (call : Call) (entries more : List Entry) (due reply : Reply) → p.state.catalogue ≡ new_catalogue → MakesNone (ask.Client call) → IsLegal p (map took (entries ++ more)) → Due (ask.Client call) entries due → Behind more
+one_call p call entries more due reply new none legal d =
+    let all : IsLegal p (map took ((d.0 ∷ []) ++ more)) = subst (λ (es : List Entry). IsLegal p (map took (es ++ more))) d.2 legal in
+    (next p (took d.0), stays_new p d.0 call d.1 new d.3 none, all.1)
+
+-- what is no call
+no_call : (p : Place) (entries more : List Entry) → p.state.catalogue ≡ new_catalogue → IsLegal p (map took (entries ++ more)) → entries ≡ [] → Behind more
+no_call p entries more new legal is = (p, new, subst (λ (es : List Entry). IsLegal p (map took (es ++ more))) is legal)
+
+one_message : (p : Place) (asked : Asked) (entries more : List Entry) (due reply : Reply) → p.state.catalogue ≡ new_catalogue → MakesNone asked → IsLegal p (map took (entries ++ more)) → Due asked entries due → (reply ≡ due) ⊎ (reply ≡ out_of_memory)
+    → Lists names asked reply × Behind more
+one_message p (ask.Client GetAllDatabases) entries more due reply new none legal d which =
+    let all : IsLegal p (map took ((d.0 ∷ []) ++ more)) = subst (λ (es : List Entry). IsLegal p (map took (es ++ more))) d.2 legal in
+    let one = one_listing p d.0 d.1 new d.3 all.0 in
+    (instead due reply (Names names) (subst (λ (r : Reply). (r ≡ Names names) ⊎ (r ≡ out_of_memory)) (sym d.4) one) which, one_call p GetAllDatabases entries more due reply new tt legal d)
+one_message p (ask.Client (GetDatabase name)) entries more due reply new none legal d which = (tt, one_call p (GetDatabase name) entries more due reply new tt legal d)
+one_message p (ask.Client (CreateDatabase db)) entries more due reply new none legal d which = absurd none
+one_message p (ask.Plain r) entries more due reply new none legal d which = (tt, no_call p entries more new legal d.0)
+one_message p ask.Unknown entries more due reply new none legal d which = (tt, no_call p entries more new legal d.0)
+one_message p (ask.BadArgument id) entries more due reply new none legal d which = (tt, no_call p entries more new legal d.0)
+one_message p ask.Shutdown entries more due reply new none legal d which = absurd d
+
+all_turns : (p : Place) (turns : List Turn) → p.state.catalogue ≡ new_catalogue → AllByRecursion IsTurn turns → AllByRecursion (λ (turn : Turn). MakesNone (asks turn.message)) turns → IsLegal p (map took (flat_map (λ turn. turn.entries) turns))
+    → AllByRecursion (λ (turn : Turn). Lists names (asks turn.message) turn.reply) turns
+all_turns p [] new each none legal = tt
+all_turns p (t ∷ ts) new each none legal =
+    let one = one_message p (asks t.message) t.entries (flat_map (λ turn. turn.entries) ts) each.0.0 t.reply new none.0 legal each.0.1 each.0.2 in
+    (one.0, all_turns one.1.0 ts one.1.1 each.1 none.1 one.1.2)
 
 pub lists_default : AloneListsDefault
-lists_default id base turns bytes clock clock' entries carried legal =
-    all_turns (place_of (record { state = start id base; fault = 0 })) turns refl carried.each (subst (λ (es : List Entry). IsLegal (place_of (record { state = start id base; fault = 0 })) (map took es)) carried.own legal)
+lists_default id base turns bytes clock clock' entries carried legal none =
+    all_turns (place_of (record { state = start id base; fault = 0 })) turns refl carried.each none (subst (λ (es : List Entry). IsLegal (place_of (record { state = start id base; fault = 0 })) (map took es)) carried.own legal)

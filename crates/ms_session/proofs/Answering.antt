@@ -11,16 +11,13 @@ use Rattle.desk.specs.Entries.{Others}
 use Rattle.desk.specs.History.{Entry}
 use Rattle.desk.proofs.Additions.{adds_none, adds_one}
 use Rattle.thrift_binary.specs.declared.head.Head.{Head}
-use Rattle.ms_calls.specs.Refusals.{out_of_memory, unknown_method}
-use Rattle.ms_session.specs.Replies.{asked_by, reply_bytes}
-use Rattle.ms_session.specs.Turns.{Answers, AnswersBy, Begins, Due, GrewPart, Replies, Timed, moments_of, reply_to}
+use Rattle.ms_calls.specs.Refusals.{out_of_memory}
+use Rattle.ms_calls.specs.declared.request.Asked.{Asked}
+use Rattle.ms_calls.specs.declared.request.Asked.TheVariants.{Client}
+use Rattle.ms_session.specs.Replies.{reply_bytes}
+use Rattle.ms_session.specs.Turns.{Answers, AnswersBy, Begins, Did, Due, GrewPart, Replies, Timed, moments_of, reply_to}
+use Rattle.ms_session.specs.declared.request.Request.{Request}
 use Rattle.ms_session.proofs.Turns.{is_wanted, no_reply, reply_sent}
-use Rattle.ms_session.specs.declared.asking.Asked.{Asked}
-use Rattle.ms_session.specs.declared.asking.Asked.TheVariants.{Client, Unknown}
-
--- what was done for a message, and the reply to it where there was memory for that
-abbrev pub Did : {E : Type 0} → Asked → Option (List ℕ) → Option (List ℕ) → Result Reply E → List Entry → Type 0
-Did asked clock clock' result own = (due : Reply) × Due asked own due × Timed (moments_of own) clock clock' × IfOk result (λ reply. reply ≡ due)
 
 same_clock : (a : Option (List ℕ)) → Goes Same a a
 same_clock None = tt
@@ -34,9 +31,9 @@ called alone me old new between e call moment clock clock' result mine is others
     adds_one alone me old new between e (Did (Client call) clock clock' result) mine others grew sole
     (reply_to e.1.answer, (e, moment, refl, is, refl), rw is (clock', ticks, same_clock clock'), replied)
 
--- what nobody knows is no step
-pub not_called : {E : Type 0} (alone : Bool) (me : ℕ) (es : List Entry) (clock : Option (List ℕ)) (result : Result Reply E) → IfOk result (λ reply. reply ≡ unknown_method) → Adds alone me es es (Did Unknown clock clock result)
-not_called alone me es clock result replied = adds_none alone me es (Did Unknown clock clock result) (unknown_method, (refl, refl), same_clock clock, replied)
+-- nothing else is a step
+pub not_called : {E : Type 0} (alone : Bool) (me : ℕ) (es : List Entry) (clock : Option (List ℕ)) (asked : Asked) (due : Reply) (result : Result Reply E) → Due asked [] due → IfOk result (λ reply. reply ≡ due) → Adds alone me es es (Did asked clock clock result)
+not_called alone me es clock asked due result is replied = adds_none alone me es (Did asked clock clock result) (due, is, same_clock clock, replied)
 
 -- nothing of a reply was written
 unwritten : (bytes : List ℕ) (h : Option Held) → Goes (GrewPart bytes) h h
@@ -50,26 +47,26 @@ part_written n bytes (Some x) None grew = absurd grew
 part_written n bytes (Some x) (Some y) grew = (n, grew)
 
 -- a reply was sent, as far as the sink took it
-sent : {T E : Type 0} (head : Head) (own : List Entry) (c c' : Option (List ℕ)) (h h' : Option Held) (due reply : Reply) (bytes : List ℕ) (result : Result T E) → (head.kind == 4) ≡ false
-    → Due (asked_by head.name) own due → (reply ≡ due) ⊎ (reply ≡ out_of_memory) → Timed (moments_of own) c c' → bytes ≡ reply_bytes head reply
-    → OnOk result (Goes (Sent bytes) h h') → OnErr result ((n : ℕ) × Goes (Grew (take n bytes)) h h') → Answers head own c c' h h' result
-sent head own c c' h h' due reply bytes (Ok x) wanted is which timed same ok err =
-    (due, reply, is, which, timed, reply_sent head reply h h' wanted (subst (λ (b : List ℕ). Goes (Sent b) h h') same ok))
-sent head own c c' h h' due reply bytes (Err e) wanted is which timed same ok err =
-    (due, reply, is, which, timed, (is_wanted head.kind wanted, subst (λ (b : List ℕ). Goes (GrewPart b) h h') same (part_written err.0 bytes h h' err.1)))
+sent : {T E : Type 0} (r : Request) (own : List Entry) (c c' : Option (List ℕ)) (h h' : Option Held) (due reply : Reply) (bytes : List ℕ) (result : Result T E) → (r.head.kind == 4) ≡ false
+    → Due r.asked own due → (reply ≡ due) ⊎ (reply ≡ out_of_memory) → Timed (moments_of own) c c' → bytes ≡ reply_bytes r.head reply
+    → OnOk result (Goes (Sent bytes) h h') → OnErr result ((n : ℕ) × Goes (Grew (take n bytes)) h h') → Answers r own c c' h h' result
+sent r own c c' h h' due reply bytes (Ok x) wanted is which timed same ok err =
+    (due, reply, is, which, timed, reply_sent r.head reply h h' wanted (subst (λ (b : List ℕ). Goes (Sent b) h h') same ok))
+sent r own c c' h h' due reply bytes (Err e) wanted is which timed same ok err =
+    (due, reply, is, which, timed, (is_wanted r.head.kind wanted, subst (λ (b : List ℕ). Goes (GrewPart b) h h') same (part_written err.0 bytes h h' err.1)))
 
 -- the reply that was gathered was sent
-pub answered : {T E F : Type 0} (head : Head) (own : List Entry) (c c' : Option (List ℕ)) (h h' : Option Held) (done : Result Reply F) (bytes : List ℕ) (result : Result T E) → (head.kind == 4) ≡ false
-    → Did (asked_by head.name) c c' done own → MatchResult done (λ reply. (bytes ≡ reply_bytes head reply) ⊎ (bytes ≡ reply_bytes head out_of_memory)) (λ _. bytes ≡ reply_bytes head out_of_memory)
-    → OnOk result (Goes (Sent bytes) h h') → OnErr result ((n : ℕ) × Goes (Grew (take n bytes)) h h') → Answers head own c c' h h' result
-answered head own c c' h h' (Ok reply) bytes result wanted did (inl same) ok err = sent head own c c' h h' did.0 reply bytes result wanted did.1 (inl did.3) did.2 same ok err
-answered head own c c' h h' (Ok reply) bytes result wanted did (inr same) ok err = sent head own c c' h h' did.0 out_of_memory bytes result wanted did.1 (inr refl) did.2 same ok err
-answered head own c c' h h' (Err e) bytes result wanted did same ok err = sent head own c c' h h' did.0 out_of_memory bytes result wanted did.1 (inr refl) did.2 same ok err
+pub answered : {T E F : Type 0} (r : Request) (own : List Entry) (c c' : Option (List ℕ)) (h h' : Option Held) (done : Result Reply F) (bytes : List ℕ) (result : Result T E) → (r.head.kind == 4) ≡ false
+    → Did r.asked c c' done own → MatchResult done (λ reply. (bytes ≡ reply_bytes r.head reply) ⊎ (bytes ≡ reply_bytes r.head out_of_memory)) (λ _. bytes ≡ reply_bytes r.head out_of_memory)
+    → OnOk result (Goes (Sent bytes) h h') → OnErr result ((n : ℕ) × Goes (Grew (take n bytes)) h h') → Answers r own c c' h h' result
+answered r own c c' h h' (Ok reply) bytes result wanted did (inl same) ok err = sent r own c c' h h' did.0 reply bytes result wanted did.1 (inl did.3) did.2 same ok err
+answered r own c c' h h' (Ok reply) bytes result wanted did (inr same) ok err = sent r own c c' h h' did.0 out_of_memory bytes result wanted did.1 (inr refl) did.2 same ok err
+answered r own c c' h h' (Err e) bytes result wanted did same ok err = sent r own c c' h h' did.0 out_of_memory bytes result wanted did.1 (inr refl) did.2 same ok err
 
 -- no reply was gathered
-pub unanswered : {F : Type 0} (head : Head) (own : List Entry) (c c' : Option (List ℕ)) (h : Option Held) (done : Result Reply F) → (head.kind == 4) ≡ false → Did (asked_by head.name) c c' done own → AnswersBy Begins head own c c' h h
-unanswered head own c c' h done wanted did = (did.0, out_of_memory, did.1, inr refl, did.2, (is_wanted head.kind wanted, unwritten _ h))
+pub unanswered : {F : Type 0} (r : Request) (own : List Entry) (c c' : Option (List ℕ)) (h : Option Held) (done : Result Reply F) → (r.head.kind == 4) ≡ false → Did r.asked c c' done own → AnswersBy Begins r own c c' h h
+unanswered r own c c' h done wanted did = (did.0, out_of_memory, did.1, inr refl, did.2, (is_wanted r.head.kind wanted, unwritten _ h))
 
 -- no reply is wanted
-pub unasked : {F : Type 0} (head : Head) (own : List Entry) (c c' : Option (List ℕ)) (h : Option Held) (done : Result Reply F) → (head.kind == 4) ≡ true → Did (asked_by head.name) c c' done own → AnswersBy Replies head own c c' h h
-unasked head own c c' h done one_way did = (did.0, did.0, did.1, inl refl, did.2, no_reply head did.0 h one_way)
+pub unasked : {F : Type 0} (r : Request) (own : List Entry) (c c' : Option (List ℕ)) (h : Option Held) (done : Result Reply F) → (r.head.kind == 4) ≡ true → Did r.asked c c' done own → AnswersBy Replies r own c c' h h
+unasked r own c c' h done one_way did = (did.0, did.0, did.1, inl refl, did.2, no_reply r.head did.0 h one_way)

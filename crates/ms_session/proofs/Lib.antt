@@ -3,3 +3,5 @@ pub mod Results
 pub mod Answering
 pub mod Sessions
 pub mod Alone
+pub mod WholeTexts
+pub mod Coming

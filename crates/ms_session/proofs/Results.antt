@@ -1,13 +1,11 @@
 -- What a store answers to a call is a reply that the call can have.
-use Rattle.std.proofs.Common.{◌≡◌, ℕ, Bool, true, false, List, [], ◌∷◌, ◌++◌, map, codes, Option, Some, None, is_some, IfOk, Result, Ok, Err, refl, sym, ◌∙◌, ap, subst, inl, inr}
+use Rattle.std.proofs.Common.{◌≡◌, ℕ, Bool, true, false, List, [], ◌∷◌, ◌++◌, map, codes, Option, Some, None, is_some, IsSome, IfOk, Result, Ok, Err, refl, sym, ◌∙◌, ap, subst, inl, inr}
 use Rattle.std.specs.Prelude.{◌+◌, cond, length, nat_le, nat_lt, not}
-use Rattle.std.specs.Str.{bytes_eq}
-use Rattle.std.proofs.lemmas.Slice.Eq.{bytes_eq-Decides}
 use Rattle.cat_types.specs.declared.calls.Call.{Call}
 use Rattle.cat_types.specs.declared.calls.Call.TheVariants.{CreateDatabase, GetAllDatabases, GetDatabase}
 use Rattle.cat_types.specs.declared.changes.Change.{Change}
 use Rattle.cat_types.specs.declared.replies.Reply.{Reply}
-use Rattle.cat_types.specs.declared.replies.Reply.TheVariants.{Nothing}
+use Rattle.cat_types.specs.declared.replies.Reply.TheVariants.{Nothing, Refused}
 use Rattle.cat_types.specs.declared.steps.Answer.{Answer}
 use Rattle.cat_types.specs.declared.steps.Answer.TheVariants as answer
 use Rattle.cat_types.specs.declared.steps.Step.{Step}
@@ -21,13 +19,10 @@ use Rattle.desk.specs.History.{Entry, IsLegal, Legal, MayAnswer, MayFollow, Plac
 use Rattle.desk.specs.State.{State, bars, due_by}
 use Rattle.ms_calls.specs.declared.method.Method.{Method}
 use Rattle.ms_calls.specs.declared.method.Method.TheVariants as method
-use Rattle.ms_calls.specs.Methods.{method_named}
-use Rattle.ms_calls.specs.Refusals.{unknown_method}
+use Rattle.ms_calls.specs.Asked.{method_of}
+use Rattle.ms_calls.specs.Exceptions.{general_code}
 use Rattle.ms_calls.specs.Replies.{CanReply}
-use Rattle.ms_session.specs.Replies.{asked_by, method_of}
 use Rattle.ms_session.specs.Turns.{reply_to}
-use Rattle.ms_session.specs.declared.asking.Asked.{Asked}
-use Rattle.ms_session.specs.declared.asking.Asked.TheVariants.{Client, Unknown}
 
 -- ---- results of calls
 
@@ -75,29 +70,7 @@ can_call s old between new e call moment (Ok reply) is grew legal replied =
     let may = subst (λ (t : Step). MayAnswer last.0 e.0.caller t e.1.answer e.1.fault) is last.1.1 in
     subst (CanReply (Some (method_of call))) (sym replied) (can_answer last.0 e.0.caller call moment e.1.answer e.1.fault may)
 
--- ---- methods by name
-
-unknown_asks_no_call : (call : Call) → Unknown ≡ Client call → ⊥
-unknown_asks_no_call call is = subst is_unknown is tt
-  where
-    is_unknown : Asked → Type 0
-    is_unknown Unknown = Unit {0}
-    is_unknown (Client other) = ⊥
-
-abbrev call_of : Call → Asked → Call
-call_of call (Client other) = other
-call_of call Unknown = call
-
--- the name of a message that asks for a call is that of the call's method
-pub method_asked : (name : List ℕ) (call : Call) → asked_by name ≡ Client call → method_named name ≡ Some (method_of call)
-unfolding asked_by method_named
-method_asked name call is = by_name (bytes_eq name (codes "get_all_databases")) (bytes_eq-Decides name (codes "get_all_databases")).0 is
-  where
-    by_name : (b : Bool) → (b ≡ true → name ≡ codes "get_all_databases") → cond b (Client GetAllDatabases) Unknown ≡ Client call → method_named name ≡ Some (method_of call)
-    by_name true named is = ap method_named (named refl) ∙ ap (λ (c : Call). Some (method_of c)) (ap (call_of call) is)
-    by_name false named is = absurd (unknown_asks_no_call call is)
-
--- a reply that is the refusal of an unknown method can answer every message
-pub can_refuse : {E : Type 0} (m : Option Method) (result : Result Reply E) → IfOk result (λ reply. reply ≡ unknown_method) → IfOk result (CanReply m)
-can_refuse m (Err e) is = tt
-can_refuse m (Ok reply) is = subst (CanReply m) (sym is) (inl refl)
+-- a refusal that every call may be answered
+pub can_refuse : {E : Type 0} (m : Option Method) (number : ℕ) (text : List ℕ) (result : Result Reply E) → IsSome (general_code number) → IfOk result (λ reply. reply ≡ Refused number text) → IfOk result (CanReply m)
+can_refuse m number text (Err e) general is = tt
+can_refuse m number text (Ok reply) general is = subst (CanReply m) (sym is) (inl general)

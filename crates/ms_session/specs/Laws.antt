@@ -1,24 +1,61 @@
 -- What follows from the session relation.
-use Rattle.std.specs.Prelude.{◌≡◌, ℕ, ◌⊎◌, List, [], ◌∷◌, codes, Option, if◌then◌else◌}
+use Rattle.std.specs.Prelude.{◌≡◌, ⊤, ℕ, ◌⊎◌, List, [], ◌∷◌, ◌++◌, codes, map, Option, Some}
 use Rattle.std.specs.List.{AllByRecursion}
-use Rattle.std.specs.Str.{bytes_eq}
+use Rattle.hms_outside.specs.Told.{Goes}
+use Rattle.cat_types.specs.declared.calls.Call.TheVariants.{CreateDatabase, GetAllDatabases}
 use Rattle.cat_types.specs.declared.replies.Reply.{Reply}
 use Rattle.cat_types.specs.declared.replies.Reply.TheVariants.{Names}
 use Rattle.desk.specs.History.{Entry, Legal}
 use Rattle.desk.specs.State.{start}
-use Rattle.thrift_binary.specs.declared.head.Head.{Head}
-use Rattle.ms_calls.specs.Refusals.{out_of_memory, unknown_method}
-use Rattle.ms_session.specs.Turns.{Carried, Turn}
+use Rattle.thrift_binary.specs.Messages.{Message, Ending, Boundary, Spells, Truncated as TruncatedAt, Bad_at, Large_at}
+use Rattle.ms_calls.specs.declared.request.Asked.{Asked}
+use Rattle.ms_calls.specs.declared.request.Asked.TheVariants as ask
+use Rattle.ms_calls.specs.Refusals.{out_of_memory}
+use Rattle.ms_session.specs.Requests.{asks}
+use Rattle.ms_session.specs.Session.{Met, Session}
+use Rattle.ms_session.specs.Turns.{Carried, Replied, Turn, replies_of}
+use Rattle.ms_session.specs.declared.end.End.{End}
+use Rattle.ms_session.specs.declared.end.End.TheVariants.{Done, Shutdown, Truncated, BadWire, TooLarge}
 
--- the reply to a message where the databases have these names
-abbrev pub plain_reply : List (List ℕ) → Head → Reply
-plain_reply names head = if bytes_eq head.name (codes "get_all_databases") then Names names else unknown_method
+-- ---- every whole message is answered
 
--- a message was answered so, or by want of memory
-abbrev pub AnsweredPlainly : List (List ℕ) → Turn → Type 0
-AnsweredPlainly names turn = (turn.reply ≡ plain_reply names turn.message.head) ⊎ (turn.reply ≡ out_of_memory)
+-- these messages were carried out in order, and answered, each that wants a reply; nothing else was written
+pub record AllAnswered (old new : Met) (entries : List Entry) (messages : List Message) : Type 0 where
+  pub turns : List Turn
+  pub bytes : List ℕ
+  pub are : map (λ turn. turn.message) turns ≡ messages
+  pub carried : Carried turns bytes old.clock new.clock entries
+  pub replied : Goes (Replied (replies_of turns)) old.held new.held
 
--- where the messages of one caller are all that a new store went through, each listing names `default` alone
+-- a session over a text that spells these messages, and ends so, answered them all, and ended as the text does; or one of them asked for its end, and those before it were answered; or something outside failed, or memory was refused
+abbrev pub EndsWith : Met → Met → List Entry → List Message → Ending → End → Type 0
+EndsWith old new entries messages ending Done = AllAnswered old new entries messages × (ending ≡ Boundary)
+EndsWith old new entries messages ending (Truncated place) = AllAnswered old new entries messages × (ending ≡ TruncatedAt place)
+EndsWith old new entries messages ending (BadWire code place) = AllAnswered old new entries messages × (ending ≡ Bad_at code place)
+EndsWith old new entries messages ending (TooLarge place) = AllAnswered old new entries messages × (ending ≡ Large_at place)
+EndsWith old new entries messages ending Shutdown =
+    (before : List Message) × (last : Message) × (more : List Message) × (messages ≡ before ++ last ∷ more) × (asks last ≡ ask.Shutdown) × AllAnswered old new entries before
+EndsWith old new entries messages ending end = ⊤
+
+abbrev pub WholeTextsAreServed : Type 0
+WholeTextsAreServed =
+    (old new : Met) (entries : List Entry) (end : End) (text : List ℕ) (messages : List Message) (ending : Ending)
+    → old.left ≡ Some text → Spells text messages ending → Session old new entries end → EndsWith old new entries messages ending end
+
+-- ---- a caller alone
+
+-- a message that asks for no new database
+abbrev pub MakesNone : Asked → Type 0
+MakesNone (ask.Client (CreateDatabase db)) = ⊥
+MakesNone asked = ⊤
+
+-- a message that lists the databases was answered these names, or want of memory
+abbrev pub Lists : List (List ℕ) → Asked → Reply → Type 0
+Lists names (ask.Client GetAllDatabases) reply = (reply ≡ Names names) ⊎ (reply ≡ out_of_memory)
+Lists names asked reply = ⊤
+
+-- where the messages of one caller are all that a new store went through, and none asks for a new database, each listing names `default` alone
 abbrev pub AloneListsDefault : Type 0
 AloneListsDefault = (id : List ℕ) (base : ℕ) (turns : List Turn) (bytes : List ℕ) (clock clock' : Option (List ℕ)) (entries : List Entry)
-    → Carried turns bytes clock clock' entries → Legal (record { state = start id base; fault = 0 }) entries → AllByRecursion (AnsweredPlainly (codes "default" ∷ [])) turns
+    → Carried turns bytes clock clock' entries → Legal (record { state = start id base; fault = 0 }) entries → AllByRecursion (λ turn. MakesNone (asks turn.message)) turns
+    → AllByRecursion (λ turn. Lists (codes "default" ∷ []) (asks turn.message) turn.reply) turns

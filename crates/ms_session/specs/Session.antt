@@ -5,11 +5,13 @@ use Rattle.hms_outside.specs.Told.{Goes, Held}
 use Rattle.desk.specs.History.{Entry}
 use Rattle.thrift_binary.specs.declared.fault.WireFault.{WireFault}
 use Rattle.thrift_binary.specs.declared.fault.WireFault.TheVariants as fault
-use Rattle.thrift_binary.specs.Messages.{Asks, StopsMessage, Ends, Bad_at, Large_at, Truncated as TruncatedAt}
-use Rattle.thrift_binary.specs.Taking.{Cut, room_at}
+use Rattle.thrift_binary.specs.Messages.{Message, Asks, IsMessage, StopsMessage, Ends, Bad_at, Large_at, Truncated as TruncatedAt}
+use Rattle.thrift_binary.specs.Taking.{Stop, Cut, room_at}
+use Rattle.ms_calls.specs.declared.request.Asked.TheVariants as ask
+use Rattle.ms_session.specs.Requests.{asks}
 use Rattle.ms_session.specs.Turns.{Carried, Replied, RepliedPart, Turn, replies_of, turn_bytes}
 use Rattle.ms_session.specs.declared.end.End.{End}
-use Rattle.ms_session.specs.declared.end.End.TheVariants.{Done, Truncated, BadWire, TooLarge, ReadFault, WriteFault, NoMemory}
+use Rattle.ms_session.specs.declared.end.End.TheVariants.{Done, Shutdown, Truncated, BadWire, TooLarge, ReadFault, WriteFault, NoMemory}
 
 -- what a session meets outside, at its beginning and at its end: what its source has left, what its sink holds, and the moments that its clock will answer, as far as each is known
 pub record Met : Type 0 where
@@ -41,10 +43,20 @@ pub record Interrupted (old new : Met) (entries : List Entry) : Type 0 where
 abbrev pub IsFront : ℕ → List ℕ → Type 0
 IsFront at rest = StopsMessage Asks Cut rest × (length rest ≤ room_at at)
 
+-- the rest is one message, which asks for the end of the session
+abbrev pub IsShutdown : ℕ → List ℕ → Type 0
+IsShutdown at rest = (message : Message) × IsMessage Asks message rest × (asks message ≡ ask.Shutdown) × (length rest ≤ room_at at)
+
+-- the rest is what came of a message that was not carried out: up to where it stops to be one, or all of it
+abbrev pub IsPart : ℕ → List ℕ → Type 0
+IsPart at rest = (((stop : Stop) × StopsMessage Asks stop rest) ⊎ ((message : Message) × IsMessage Asks message rest)) × (length rest ≤ room_at at)
+
 -- how a session ended that had these entries of its caller
 abbrev pub Session : Met → Met → List Entry → End → Type 0
 -- the whole input is messages
 Session old new entries Done = Served old new entries (λ _ rest. (rest ≡ []) × IsAtEnd new.left)
+-- behind the messages stands the one that ends the session, and nothing was taken behind it
+Session old new entries Shutdown = Served old new entries IsShutdown
 -- the input ends behind the messages, inside another, at this place
 Session old new entries (Truncated place) = Served old new entries (λ at rest. Ends Asks at rest (TruncatedAt place) × IsAtEnd new.left)
 -- behind the messages the input goes on as no message does, for the cause with this code, at this place; whatever follows what was taken changes nothing
@@ -55,7 +67,8 @@ Session old new entries (TooLarge place) = Served old new entries (λ at rest. E
 Session old new entries ReadFault = Served old new entries IsFront
 -- nothing was carried out behind the reply that could not be written
 Session old new entries WriteFault = Interrupted old new entries
-Session old new entries NoMemory = Served old new entries IsFront ⊎ Interrupted old new entries
+-- memory was refused while at most one message more was read, or for a reply
+Session old new entries NoMemory = Served old new entries IsPart ⊎ Interrupted old new entries
 
 -- the end that a fault of the reader makes
 abbrev pub end_of_fault : WireFault → End

@@ -1,5 +1,5 @@
 -- How one message is carried out at a desk, and how many are, one by one.
-use Rattle.std.specs.Prelude.{◌≡◌, ◌≢◌, ℕ, ◌+◌, ◌⊎◌, List, [], ◌∷◌, ◌++◌, length, map, take, Option, Result, MatchResult}
+use Rattle.std.specs.Prelude.{◌≡◌, ◌≢◌, ℕ, ◌+◌, ◌⊎◌, List, [], ◌∷◌, ◌++◌, length, map, take, Option, Result, IfOk, MatchResult}
 use Rattle.std.specs.List.{AllByRecursion, concat, flat_map}
 use Rattle.hms_outside.specs.Clocks.{Ticks}
 use Rattle.hms_outside.specs.Told.{Goes, Grew, Held, Same}
@@ -11,10 +11,12 @@ use Rattle.cat_types.specs.declared.steps.Step.TheVariants as step
 use Rattle.desk.specs.History.{Entry}
 use Rattle.thrift_binary.specs.declared.head.Head.{Head}
 use Rattle.thrift_binary.specs.Messages.{Message, Asks, AreMessages}
-use Rattle.ms_calls.specs.Refusals.{out_of_memory, store_fault, unknown_method}
-use Rattle.ms_session.specs.Replies.{asked_by, asked_of, reply_bytes, sent_for}
-use Rattle.ms_session.specs.declared.asking.Asked.{Asked}
-use Rattle.ms_session.specs.declared.asking.Asked.TheVariants.{Client, Unknown}
+use Rattle.ms_calls.specs.Refusals.{bad_argument, out_of_memory, store_fault, unknown_method}
+use Rattle.ms_calls.specs.declared.request.Asked.{Asked}
+use Rattle.ms_calls.specs.declared.request.Asked.TheVariants.{Client, Plain, Unknown, BadArgument, Shutdown}
+use Rattle.ms_session.specs.Replies.{reply_bytes, sent_for}
+use Rattle.ms_session.specs.Requests.{asks}
+use Rattle.ms_session.specs.declared.request.Request.{Request}
 
 -- ---- one message
 
@@ -24,10 +26,13 @@ reply_to (answer.Reply reply) = reply
 reply_to answer.StoreFault = store_fault
 reply_to answer.NoMemory = out_of_memory
 
--- the entries of the caller for what a message asks, and the reply that is due: a call is one step, and its answer makes the reply; what nobody knows is no step
+-- the entries of the caller for what a message asks, and the reply that is due: a call is one step, and its answer makes the reply; nothing else is a step, and no reply is due to the end of the session
 abbrev pub Due : Asked → List Entry → Reply → Type 0
 Due (Client call) entries reply = (e : Entry) × (moment : ℕ) × (entries ≡ e ∷ []) × (e.0.step ≡ step.Client call moment) × (reply ≡ reply_to e.1.answer)
+Due (Plain answer) entries reply = (entries ≡ []) × (reply ≡ answer)
 Due Unknown entries reply = (entries ≡ []) × (reply ≡ unknown_method)
+Due (BadArgument id) entries reply = (entries ≡ []) × (reply ≡ bad_argument id)
+Due Shutdown entries reply = ⊥
 
 -- a message that was carried out, the caller's entries for it, and its reply
 pub record Turn : Type 0 where
@@ -37,7 +42,7 @@ pub record Turn : Type 0 where
 
 -- the entries are those of what the message asks, and the reply is the one that is due, or want of memory in its place
 abbrev pub IsTurn : Turn → Type 0
-IsTurn turn = (due : Reply) × Due (asked_of turn.message) turn.entries due × ((turn.reply ≡ due) ⊎ (turn.reply ≡ out_of_memory))
+IsTurn turn = (due : Reply) × Due (asks turn.message) turn.entries due × ((turn.reply ≡ due) ⊎ (turn.reply ≡ out_of_memory))
 
 -- the bytes of its reply
 abbrev pub turn_bytes : Turn → List ℕ
@@ -60,6 +65,10 @@ moments_of entries = map (λ e. moment_of e.0.step) entries
 abbrev pub Timed : List ℕ → Option (List ℕ) → Option (List ℕ) → Type 0
 Timed [] old new = Goes Same old new
 Timed (moment ∷ moments) old new = (between : Option (List ℕ)) × Ticks old between moment × Timed moments between new
+
+-- what was done for what a message asks, and its reply, where there was memory for that
+abbrev pub Did : {E : Type 0} → Asked → Option (List ℕ) → Option (List ℕ) → Result Reply E → List Entry → Type 0
+Did asked clock clock' result own = (due : Reply) × Due asked own due × Timed (moments_of own) clock clock' × IfOk result (λ reply. reply ≡ due)
 
 -- ---- replies
 
@@ -87,14 +96,14 @@ Replies head reply held held' = Goes (Replied (sent_for head reply)) held held'
 abbrev pub Begins : Head → Reply → Option Held → Option Held → Type 0
 Begins head reply held held' = (head.kind ≢ 4) × Goes (GrewPart (reply_bytes head reply)) held held'
 
--- a message with this head was carried out with these entries, and this became of its reply
-abbrev pub AnswersBy : (Head → Reply → Option Held → Option Held → Type 0) → Head → List Entry → Option (List ℕ) → Option (List ℕ) → Option Held → Option Held → Type 0
-AnswersBy Went head entries clock clock' held held' =
-    (due reply : Reply) × Due (asked_by head.name) entries due × ((reply ≡ due) ⊎ (reply ≡ out_of_memory)) × Timed (moments_of entries) clock clock' × Went head reply held held'
+-- a request was carried out with these entries, and this became of its reply
+abbrev pub AnswersBy : (Head → Reply → Option Held → Option Held → Type 0) → Request → List Entry → Option (List ℕ) → Option (List ℕ) → Option Held → Option Held → Type 0
+AnswersBy Went request entries clock clock' held held' =
+    (due reply : Reply) × Due request.asked entries due × ((reply ≡ due) ⊎ (reply ≡ out_of_memory)) × Timed (moments_of entries) clock clock' × Went request.head reply held held'
 
--- a message was carried out, and its reply was sent whole, or a front of it where the sending was refused
-abbrev pub Answers : {T E : Type 0} → Head → List Entry → Option (List ℕ) → Option (List ℕ) → Option Held → Option Held → Result T E → Type 0
-Answers head entries clock clock' held held' result = MatchResult result (λ _. AnswersBy Replies head entries clock clock' held held') (λ _. AnswersBy Begins head entries clock clock' held held')
+-- a request was carried out, and its reply was sent whole, or a front of it where the sending was refused
+abbrev pub Answers : {T E : Type 0} → Request → List Entry → Option (List ℕ) → Option (List ℕ) → Option Held → Option Held → Result T E → Type 0
+Answers request entries clock clock' held held' result = MatchResult result (λ _. AnswersBy Replies request entries clock clock' held held') (λ _. AnswersBy Begins request entries clock clock' held held')
 
 -- ---- many messages
 

@@ -1,42 +1,42 @@
 //! Carrying out what a message asks.
 
-ghost use Rattle.std.specs.Prelude.{◌≡◌, ◌≤◌, IfOk, Some};
+ghost use Rattle.std.specs.Prelude.{◌≡◌, ◌≤◌, IfOk, Option, Some};
 ghost use Rattle.cat_types.specs.declared.replies.Reply.{Reply};
 ghost use Rattle.desk.specs.Adds.{Adds};
 ghost use Rattle.desk.specs.History.{Legal};
-ghost use Rattle.ms_calls.specs.Methods.{method_named};
-ghost use Rattle.ms_calls.specs.Refusals.{out_of_memory, store_fault, unknown_method};
+ghost use Rattle.ms_calls.specs.Asked.{IfClient, IfPlain, method_of};
 ghost use Rattle.ms_calls.specs.Replies.{CanReply};
-ghost use Rattle.ms_session.specs.Replies.{asked_by, method_of};
-ghost use Rattle.ms_session.specs.Turns.{Due, Timed, moments_of, reply_to};
+ghost use Rattle.ms_calls.specs.declared.method.Method.{Method};
+ghost use Rattle.ms_session.specs.Turns.{Did, reply_to};
 
-use crate::asking::{Asked, asked_of};
 use cat_types::{Answer, Call, NoMemory, Reply, Step};
 use desk::Desk;
 use hms_outside::Clock;
-use ms_calls::{out_of_memory, store_fault, unknown_method};
+use ms_calls::{Asked, bad_argument, out_of_memory, store_fault, unknown_method};
 use std::alloc::Global;
-use thrift_binary::Head;
 
 /// Carries out what a message asks, and answers the reply that is due to it. After `NoMemory` it was
 /// carried out too, and only the reply is missing.
 pub fn carry_out<D: Desk, C: Clock>(
     alloc: Global,
-    head: &Head,
+    asked: Asked,
     desk: &mut D,
     clock: &mut C,
 ) -> Result<Reply, NoMemory>
+    requires goes_on { asked ≡ Asked.Shutdown → ⊥ }
     ensures caller { D.caller desk.new ≡ D.caller desk.old }
     ensures start { D.start desk.new ≡ D.start desk.old }
     ensures legal { Legal (D.start desk.old) (D.history desk.old) → Legal (D.start desk.new) (D.history desk.new) }
     ensures clock_later { C.faults clock.old ≤ C.faults clock.new }
-    ensures carried { Adds D.alone (D.caller desk.old) (D.history desk.old) (D.history desk.new) (λ own.
-        (due : Reply) × Due (asked_by head.now.name) own due × Timed (moments_of own) (C.moments clock.old) (C.moments clock.new) × IfOk result (λ reply. reply ≡ due)) }
-    ensures can { IfOk result (CanReply (method_named head.now.name)) }
+    ensures carried { Adds D.alone (D.caller desk.old) (D.history desk.old) (D.history desk.new) (Did asked (C.moments clock.old) (C.moments clock.new) result) }
+    ensures can { (method : Option Method) → IfPlain asked (CanReply method) → IfClient asked (λ call. method ≡ Some (method_of call)) → IfOk result (CanReply method) }
 {
-    match asked_of(head) {
+    match asked {
         Asked::Client(call) => call_desk(alloc, call, desk, clock),
+        Asked::Plain(reply) => Ok(reply),
         Asked::Unknown => unknown_method(alloc),
+        Asked::BadArgument(id) => bad_argument(alloc, id),
+        Asked::Shutdown => unreachable!(),
     }
 }
 
@@ -51,8 +51,7 @@ fn call_desk<D: Desk, C: Clock>(
     ensures start { D.start desk.new ≡ D.start desk.old }
     ensures legal { Legal (D.start desk.new) (D.history desk.new) }
     ensures clock_later { C.faults clock.old ≤ C.faults clock.new }
-    ensures carried { Adds D.alone (D.caller desk.old) (D.history desk.old) (D.history desk.new) (λ own.
-        (due : Reply) × Due (Asked.Client call) own due × Timed (moments_of own) (C.moments clock.old) (C.moments clock.new) × IfOk result (λ reply. reply ≡ due)) }
+    ensures carried { Adds D.alone (D.caller desk.old) (D.history desk.old) (D.history desk.new) (Did (Asked.Client call) (C.moments clock.old) (C.moments clock.new) result) }
     ensures can { IfOk result (CanReply (Some (method_of call))) }
 {
     let moment = clock.now();

@@ -5,6 +5,8 @@
 pub enum End {
     /// The whole input was messages, and each was answered.
     Done,
+    /// A message asked for the end; those before it were answered.
+    Shutdown,
     /// The input ends inside a message; those before it were answered.
     Truncated(u64),
     /// The input stops being messages at this place, for the cause with this number.

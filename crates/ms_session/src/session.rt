@@ -5,21 +5,24 @@ ghost use Rattle.hms_outside.specs.Causes.{Rose};
 ghost use Rattle.desk.specs.Adds.{Adds};
 ghost use Rattle.desk.specs.History.{Legal};
 ghost use Rattle.thrift_binary.specs.Taking.{start};
+ghost use Rattle.ms_calls.specs.declared.request.Asked.{Asked};
+ghost use Rattle.ms_session.specs.Requests.{Fits};
 ghost use Rattle.ms_session.specs.Session.{Session, end_of_fault};
 ghost use Rattle.ms_session.specs.Turns.{Answers};
 
-use crate::End;
 use crate::carrying::carry_out;
 use crate::reply::gather_reply;
+use crate::request::next_request;
+use crate::{End, Request};
 use desk::Desk;
 use hms_outside::{Clock, Folder, Sink, Source};
 use ms_calls::is_one_way;
 use std::alloc::Global;
-use thrift_binary::{Head, SendFault, WireFault, WireReader, WireWriter};
+use thrift_binary::{SendFault, WireFault, WireReader, WireWriter};
 
 /// Carries out each message of the source at the desk, and answers it on the sink, unless it wants no
 /// reply. A call is one step of the desk at the clock's next moment; other callers may take any turns
-/// before it.
+/// before it. Behind a message that asks for the end of the session nothing more is taken.
 ///
 /// Where memory is refused after a message was read, its reply says so, and the session goes on.
 /// Where it is refused while a message is read, or while that reply is made or written, or where
@@ -72,12 +75,15 @@ fn answer_all<S: Source, K: Sink, D: Desk, C: Clock>(
 {
     let mut writer = WireWriter::new(alloc);
     loop {
-        let head = match reader.message(alloc) {
-            Ok(Some(head)) => head,
+        let request = match next_request(alloc, reader) {
+            Ok(Some(request)) => request,
             Ok(None) => return End::Done,
             Err(fault) => return end_of(fault),
         };
-        match answer(alloc, &head, &mut writer, sink, desk, clock) {
+        if request.is_shutdown() {
+            return End::Shutdown;
+        }
+        match answer(alloc, request, &mut writer, sink, desk, clock) {
             Ok(()) => {}
             Err(SendFault::WriteFault) => return End::WriteFault,
             Err(SendFault::NoMemory) => return End::NoMemory,
@@ -98,19 +104,21 @@ fn end_of(fault: WireFault) -> End
     }
 }
 
-// Carries out one message, and answers it, unless it wants no reply.
+// Carries out one message that doesn't end the session, and answers it, unless it wants no reply.
 fn answer<K: Sink, D: Desk, C: Clock>(
     alloc: Global,
-    head: &Head,
+    request: Request,
     writer: &mut WireWriter,
     sink: &mut K,
     desk: &mut D,
     clock: &mut C,
 ) -> Result<(), SendFault>
-    requires { writer.old ≡ [] }
+    requires empty { writer.old ≡ [] }
+    requires goes_on { request.asked ≡ Asked.Shutdown → ⊥ }
+    requires fits { Fits request }
     ensures emptied { OnOk result (writer.new ≡ []) }
     ensures answers { Adds D.alone (D.caller desk.old) (D.history desk.old) (D.history desk.new) (λ own.
-        Answers head.now own (C.moments clock.old) (C.moments clock.new) (K.held sink.old) (K.held sink.new) result) }
+        Answers request own (C.moments clock.old) (C.moments clock.new) (K.held sink.old) (K.held sink.new) result) }
     ensures caller { D.caller desk.new ≡ D.caller desk.old }
     ensures start { D.start desk.new ≡ D.start desk.old }
     ensures legal { Legal (D.start desk.old) (D.history desk.old) → Legal (D.start desk.new) (D.history desk.new) }
@@ -118,12 +126,13 @@ fn answer<K: Sink, D: Desk, C: Clock>(
     ensures clock_later { C.faults clock.old ≤ C.faults clock.new }
     ensures cause { IsErrOf result SendFault.WriteFault → Rose (K.faults sink.old) (K.faults sink.new) }
 {
-    let due = carry_out(alloc, head, desk, clock);
-    if is_one_way(head) {
+    let Request { head, asked } = request;
+    let due = carry_out(alloc, asked, desk, clock);
+    if is_one_way(&head) {
         drop(due);
         return Ok(());
     }
-    match gather_reply(alloc, head, due, writer) {
+    match gather_reply(alloc, &head, due, writer) {
         Ok(()) => writer.send(sink),
         Err(NoMemory) => Err(SendFault::NoMemory),
     }

@@ -34,6 +34,21 @@ const NO_MEMORY: &[u8] =
 const UNKNOWN_REPLY: &[u8] =
     b"\x80\x01\x00\x03\x00\x00\x00\x01x\x00\x00\x00\x05\x0b\x00\x01\x00\x00\x00\x0eunknown method\x08\x00\x02\x00\x00\x00\x01\x00";
 
+// Asks for `b`, makes `B`, and ends the session; and the replies where others made `b` before.
+const FIND: &[u8] =
+    b"\x80\x01\x00\x01\x00\x00\x00\x0cget_database\x00\x00\x00\x02\x0b\x00\x01\x00\x00\x00\x01b\x00";
+
+const MAKE: &[u8] =
+    b"\x80\x01\x00\x01\x00\x00\x00\x0fcreate_database\x00\x00\x00\x03\x0c\x00\x01\x0b\x00\x01\x00\x00\x00\x01B\x00\x00";
+
+const SHUTDOWN: &[u8] = b"\x00\x00\x00\x08shutdown\x01\x00\x00\x00\x04\x00";
+
+const FOUND: &[u8] =
+    b"\x80\x01\x00\x02\x00\x00\x00\x0cget_database\x00\x00\x00\x02\x0c\x00\x00\x0b\x00\x01\x00\x00\x00\x01b\x0d\x00\x04\x0b\x0b\x00\x00\x00\x00\x00\x00";
+
+const THERE: &[u8] =
+    b"\x80\x01\x00\x02\x00\x00\x00\x0fcreate_database\x00\x00\x00\x03\x0c\x00\x01\x0b\x00\x01\x00\x00\x00\x0ealready exists\x00\x00";
+
 // Bytes that come in pieces of at most this length.
 #[derive(Drop)]
 struct Pieces<'a> {
@@ -122,6 +137,24 @@ fn three_messages_beside_foreign_turns(rt: HostRuntime) -> Result<(), Fail> {
         assert_eq!(rt; sink.bytes(), wanted.as_slice(), "{piece}");
         assert_eq!(rt; sink.flushes(), [49, 103, 157].as_slice(), "{piece}");
     }
+    Ok(())
+}
+
+#[test]
+fn calls_with_arguments_beside_foreign_turns(rt: HostRuntime) -> Result<(), Fail> {
+    let alloc = rt.alloc();
+    let bytes = joined(alloc, &[CALL, FIND, MAKE, SHUTDOWN, CALL])?;
+    let wanted = joined(alloc, &[DEFAULT, FOUND, THERE])?;
+    let mut source = Pieces {
+        bytes: &bytes,
+        piece: 7,
+    };
+    let mut clock = MemClock::new(Vec::new(alloc));
+    let mut desk = desk(alloc)?;
+    let (end, sink) = session(alloc, &mut source, &mut desk, &mut clock, Vec::new(alloc));
+    assert_eq!(rt; end, End::Shutdown);
+    assert_eq!(rt; sink.bytes(), wanted.as_slice());
+    assert_eq!(rt; source.bytes, CALL);
     Ok(())
 }
 

@@ -3,16 +3,17 @@
 ghost use Rattle.std.specs.Prelude.{None};
 
 use cat_types::Bytes;
-use hms_outside::{MemClock, MemDisk, MemFolder, MemSink, MemSource, Outage, Sink};
+use hms_outside::{MemClock, MemDisk, MemFolder, MemSink, MemSource, Outage, Sink, Source};
 use ms_cli::run_local;
 use std::alloc::Global;
 use std::test::Fail;
 
 // `get_all_databases` with sequence id 1.
-const CALL: &[u8] = b"\x80\x01\x00\x01\x00\x00\x00\x11get_all_databases\x00\x00\x00\x01\x00";
+pub(crate) const CALL: &[u8] =
+    b"\x80\x01\x00\x01\x00\x00\x00\x11get_all_databases\x00\x00\x00\x01\x00";
 
 // The list that holds `default`.
-const REPLY: &[u8] =
+pub(crate) const REPLY: &[u8] =
     b"\x80\x01\x00\x02\x00\x00\x00\x11get_all_databases\x00\x00\x00\x01\x0f\x00\x00\x0b\x00\x00\x00\x01\x00\x00\x00\x07default\x00";
 
 // The method `x` with sequence id 5, and its answer.
@@ -36,7 +37,7 @@ const NESTED_REPLY: &[u8] =
 
 // What a run of `pipe` leaves.
 #[derive(Drop)]
-struct Ran {
+pub(crate) struct Ran {
     status: u8,
     output: MemSink,
     errors: MemSink,
@@ -69,7 +70,7 @@ fn run<K: Sink>(
 fn run_words(
     alloc: Global,
     words: &[&str],
-    mut source: MemSource,
+    source: &mut MemSource,
     fails: &[u64],
 ) -> Result<Ran, Fail> {
     let mut all = Vec::new(alloc);
@@ -78,7 +79,7 @@ fn run_words(
     }
     let mut output = MemSink::new(alloc, fails.to_vec(alloc)?);
     let mut errors = MemSink::new(alloc, Vec::new(alloc));
-    let status = run(alloc, &all, &mut source, &mut output, &mut errors);
+    let status = run(alloc, &all, source, &mut output, &mut errors);
     Ok(Ran {
         status,
         output,
@@ -86,18 +87,24 @@ fn run_words(
     })
 }
 
-fn pipe_bytes(alloc: Global, input: &[u8]) -> Result<Ran, Fail> {
+pub(crate) fn pipe_bytes(alloc: Global, input: &[u8]) -> Result<Ran, Fail> {
     let bytes = Bytes::from_slice(alloc, input)?;
-    run_words(
-        alloc,
-        &["pipe"],
-        MemSource::new(bytes, Vec::new(alloc)),
-        &[],
-    )
+    let mut source = MemSource::new(bytes, Vec::new(alloc));
+    run_words(alloc, &["pipe"], &mut source, &[])
+}
+
+// What a run leaves, and what it leaves of its input, up to 64 bytes.
+pub(crate) fn behind(alloc: Global, input: &[u8]) -> Result<(Ran, Vec<u8>), Fail> {
+    let bytes = Bytes::from_slice(alloc, input)?;
+    let mut source = MemSource::new(bytes, Vec::new(alloc));
+    let ran = run_words(alloc, &["pipe"], &mut source, &[])?;
+    let mut rest = [0; 64];
+    let count = source.read(&mut rest).or(Err("no rest"))?;
+    Ok((ran, rest[..count].to_vec(alloc)?))
 }
 
 // Whether a run has this status, output and line.
-fn left(ran: &Ran, status: u8, output: &[u8], line: &[u8]) -> bool {
+pub(crate) fn left(ran: &Ran, status: u8, output: &[u8], line: &[u8]) -> bool {
     ran.status == status && ran.output.bytes() == output && ran.errors.bytes() == line
 }
 
@@ -196,8 +203,8 @@ fn pipe_stopping(alloc: Global, taken: u64, fails: &[u64]) -> Result<Ran, Fail> 
     let mut twice = CALL.to_vec(alloc)?;
     twice.extend_from_slice(CALL)?;
     let bytes = Bytes::from_slice(alloc, &twice)?;
-    let source = MemSource::stopping(alloc, bytes, taken);
-    run_words(alloc, &["pipe"], source, fails)
+    let mut source = MemSource::stopping(alloc, bytes, taken);
+    run_words(alloc, &["pipe"], &mut source, fails)
 }
 
 #[test]
@@ -219,8 +226,8 @@ fn other_words_are_refused(rt: HostRuntime) -> Result<(), Fail> {
     let cases: [&[&str]; 4] = [&[], &["pip"], &["pipe", "x"], &["init"]];
     for case in cases {
         let bytes = Bytes::from_slice(rt.alloc(), CALL)?;
-        let source = MemSource::new(bytes, Vec::new(rt.alloc()));
-        let ran = run_words(rt.alloc(), case, source, &[])?;
+        let mut source = MemSource::new(bytes, Vec::new(rt.alloc()));
+        let ran = run_words(rt.alloc(), case, &mut source, &[])?;
         assert!(rt; left(&ran, 2, b"", b"usage\n"));
     }
     Ok(())

@@ -1,21 +1,16 @@
-use Rattle.std.proofs.Common.{◌≡◌, Option, IfOk, subst, sym, ◌∙◌}
-use Rattle.ms_calls.specs.declared.method.Method.{Method}
-use Rattle.ms_calls.specs.Replies.{CanReply}
-use Rattle.ms_session.specs.Replies.{asked_by}
-use Rattle.ms_session.specs.declared.asking.Asked.TheVariants.{Client, Unknown}
+use Rattle.std.proofs.Common.{◌≡◌, IfOk, refl, rules, subst, w16, to_z, of_z}
+use mir.Val.{SFits}
+use Rattle.std.proofs.lemmas.Int.{to_z-of_z}
+use Rattle.ms_calls.specs.Refusals.{bad_argument, unknown_method}
+use Rattle.ms_calls.specs.declared.request.Asked.TheVariants.{BadArgument, Unknown}
 use Rattle.ms_session.proofs.Answering.{not_called}
-use Rattle.ms_session.proofs.Results.{can_refuse, method_asked}
 use Rattle.ms_session.proofs.carrying.carry_out.Goals as goal
 
 pub returns-in-Unknown-clause-carried : goal.returns-in-Unknown-clause-carried
-returns-in-Unknown-clause-carried g c =
-    let is : asked_by c.args.head.now.name ≡ Unknown = sym c.asked_of.ensures ∙ c.in-Unknown.is in
-    rw is (not_called _ _ _ _ c.unknown_method.result c.unknown_method.ensures)
+returns-in-Unknown-clause-carried g c = rw c.in-Unknown.is (not_called _ _ _ _ Unknown unknown_method c.unknown_method.result (refl, refl) c.unknown_method.ensures)
 
-pub returns-in-Unknown-clause-can : goal.returns-in-Unknown-clause-can
-returns-in-Unknown-clause-can g c = can_refuse _ c.unknown_method.result c.unknown_method.ensures
-
-pub returns-in-Client-clause-can : goal.returns-in-Client-clause-can
-returns-in-Client-clause-can g c =
-    let is : asked_by c.args.head.now.name ≡ Client c.in-Client.call = sym c.asked_of.ensures ∙ c.in-Client.is in
-    subst (λ (m : Option Method). IfOk c.call_desk.result (CanReply m)) (sym (method_asked c.args.head.now.name c.in-Client.call is)) c.call_desk.ensures.can
+pub returns-in-BadArgument-clause-carried : goal.returns-in-BadArgument-clause-carried
+returns-in-BadArgument-clause-carried g c =
+    let fits : SFits w16 c.in-BadArgument.id = search rules in
+    let same : to_z w16 (of_z w16 c.in-BadArgument.id) ≡ c.in-BadArgument.id = to_z-of_z w16 c.in-BadArgument.id fits in
+    rw c.in-BadArgument.is (not_called _ _ _ _ (BadArgument c.in-BadArgument.id) (bad_argument c.in-BadArgument.id) c.bad_argument.result (refl, refl) (subst (λ z. IfOk c.bad_argument.result (λ reply. reply ≡ bad_argument z)) same c.bad_argument.ensures))

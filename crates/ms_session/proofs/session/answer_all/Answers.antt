@@ -1,11 +1,12 @@
 use Rattle.std.proofs.Common.{ap, arith, inr, refl, rules, ◌∙◌}
 use Rattle.desk.proofs.Additions.{adds_as, adds_both, adds_none, adds_weaker}
 use Rattle.thrift_binary.specs.declared.progress.Progress.{Progress}
-use Rattle.ms_session.proofs.Sessions.{faulted, nothing_yet, one_more, one_part}
+use Rattle.thrift_binary.proofs.Reading.{Took-unspent}
+use Rattle.ms_session.proofs.Sessions.{came, faulted, nothing_yet, one_more, one_part, shut}
 use Rattle.ms_session.proofs.session.answer_all.Goals as goal
 
-pub loop-head-init : goal.loop-head-init
-loop-head-init g c = record {
+pub loop-request-init : goal.loop-request-init
+loop-request-init g c = record {
   same_source = search rules;
   read = omega arith;
   write = omega arith;
@@ -20,29 +21,33 @@ loop-head-init g c = record {
 
 pub returns-in-Err-clause-session : goal.returns-in-Err-clause-session
 returns-in-Err-clause-session g c =
-    rw c.end_of.ensures (adds_weaker _ _ _ _ _ _ (λ own so_far. faulted _ _ _ c.loop-head.reader.progress _ own c.in-Err.fault so_far c.loop-head.invariant.unspent c.in-Err.ensures.inside c.in-Err.ensures.reads) c.loop-head.invariant.so_far)
+    rw c.end_of.ensures (adds_weaker _ _ _ _ _ _ (λ own so_far. faulted _ _ _ c.loop-request.reader.progress _ own c.in-Err.fault so_far c.loop-request.invariant.unspent c.in-Err.ensures.inside c.in-Err.ensures.reads) c.loop-request.invariant.so_far)
 
 pub returns-in-Err-WriteFault-clause-session : goal.returns-in-Err-WriteFault-clause-session
 returns-in-Err-WriteFault-clause-session g c =
-    adds_both _ _ _ _ _ _ _ _ c.loop-head.invariant.so_far (adds_as _ _ _ _ _ _ c.loop-head.invariant.caller c.in-Err-WriteFault.ensures.answers)
-    (λ xs ys so_far answers. one_part _ _ _ c.loop-head.reader.progress _ xs ys c.in-Ok-Some.head so_far (rw c.in-Ok-Some.field-0-is at c.in-Ok-Some.ensures.reads) answers)
+    adds_both _ _ _ _ _ _ _ _ c.loop-request.invariant.so_far (adds_as _ _ _ _ _ _ c.loop-request.invariant.caller c.in-Err-WriteFault.ensures.answers)
+    (λ xs ys so_far answers. one_part _ _ _ c.loop-request.reader.progress _ xs ys c.in-Ok-Some.request so_far (came _ _ _ _ _ (rw c.in-Ok-Some.field-0-is at c.in-Ok-Some.ensures.reads)) answers)
 
 pub returns-in-Err-NoMemory-clause-session : goal.returns-in-Err-NoMemory-clause-session
 returns-in-Err-NoMemory-clause-session g c =
-    adds_both _ _ _ _ _ _ _ _ c.loop-head.invariant.so_far (adds_as _ _ _ _ _ _ c.loop-head.invariant.caller c.in-Err-NoMemory.ensures.answers)
-    (λ xs ys so_far answers. inr (one_part _ _ _ c.loop-head.reader.progress _ xs ys c.in-Ok-Some.head so_far (rw c.in-Ok-Some.field-0-is at c.in-Ok-Some.ensures.reads) answers))
+    adds_both _ _ _ _ _ _ _ _ c.loop-request.invariant.so_far (adds_as _ _ _ _ _ _ c.loop-request.invariant.caller c.in-Err-NoMemory.ensures.answers)
+    (λ xs ys so_far answers. inr (one_part _ _ _ c.loop-request.reader.progress _ xs ys c.in-Ok-Some.request so_far (came _ _ _ _ _ (rw c.in-Ok-Some.field-0-is at c.in-Ok-Some.ensures.reads)) answers))
 
-pub loop-head-preserved : goal.loop-head-preserved
-loop-head-preserved g c = record {
+pub loop-request-preserved : goal.loop-request-preserved
+loop-request-preserved g c = record {
   same_source = search rules;
-  read = omega (arith, c.message.ensures.later);
+  read = omega (arith, c.next_request.ensures.later);
   write = omega (arith, c.answer.ensures.later);
   clock = omega (arith, c.answer.ensures.clock_later);
   empty = c.in-Ok.ensures.emptied;
-  unspent = c.in-Ok-Some.ensures.unspent;
-  caller = c.answer.ensures.caller ∙ c.loop-head.invariant.caller;
-  start = c.answer.ensures.start ∙ c.loop-head.invariant.start;
-  legal = λ was. c.answer.ensures.legal (c.loop-head.invariant.legal was);
-  so_far = adds_both _ _ _ _ _ _ _ _ c.loop-head.invariant.so_far (adds_as _ _ _ _ _ _ c.loop-head.invariant.caller c.in-Ok.ensures.answers)
-      (λ xs ys so_far answers. one_more _ _ _ c.loop-head.reader.progress _ xs ys c.in-Ok-Some.head so_far (rw c.in-Ok-Some.field-0-is at c.in-Ok-Some.ensures.reads) answers);
+  unspent = Took-unspent _ _ _ _ _ (came _ _ _ _ c.in-Ok-Some.request (rw c.in-Ok-Some.field-0-is at c.in-Ok-Some.ensures.reads));
+  caller = c.answer.ensures.caller ∙ c.loop-request.invariant.caller;
+  start = c.answer.ensures.start ∙ c.loop-request.invariant.start;
+  legal = λ was. c.answer.ensures.legal (c.loop-request.invariant.legal was);
+  so_far = adds_both _ _ _ _ _ _ _ _ c.loop-request.invariant.so_far (adds_as _ _ _ _ _ _ c.loop-request.invariant.caller c.in-Ok.ensures.answers)
+      (λ xs ys so_far answers. one_more _ _ _ c.loop-request.reader.progress _ xs ys c.in-Ok-Some.request so_far (came _ _ _ _ _ (rw c.in-Ok-Some.field-0-is at c.in-Ok-Some.ensures.reads)) answers);
 }
+
+pub returns-then-is_shutdown-clause-session : goal.returns-then-is_shutdown-clause-session
+returns-then-is_shutdown-clause-session g c =
+    adds_weaker _ _ _ _ _ _ (λ own so_far. shut _ _ _ c.loop-request.reader.progress _ own c.in-Ok-Some.request so_far (came _ _ _ _ c.in-Ok-Some.request (rw c.in-Ok-Some.field-0-is at c.in-Ok-Some.ensures.reads)) (c.is_shutdown.ensures.0 c.if-is_shutdown.true)) c.loop-request.invariant.so_far

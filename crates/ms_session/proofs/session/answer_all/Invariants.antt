@@ -5,8 +5,8 @@ use Rattle.thrift_binary.specs.declared.limits.TheConstants.{SESSION_END}
 use Rattle.ms_session.proofs.Sessions.{SoFar}
 use Rattle.ms_session.proofs.session.answer_all.Given as goal
 
-abbrev pub invariant-loop-head : goal.invariant-loop-head
-invariant-loop-head g l = record {
+abbrev pub invariant-loop-request : goal.invariant-loop-request
+invariant-loop-request g l = record {
   same_source : l.reader.source.ghost_name ≡ l.initial.reader.source.ghost_name;
   read : g.S.Source.faults l.initial.reader.source.now ≤ g.S.Source.faults l.reader.source.now;
   write : g.K.Sink.faults l.initial.sink ≤ g.K.Sink.faults l.sink;
@@ -21,5 +21,5 @@ invariant-loop-head g l = record {
       (record { left = g.S.Source.left l.reader.source.now; held = g.K.Sink.held l.sink; clock = g.C.Clock.moments l.clock }) l.reader.progress.place own);
 }
 
-abbrev pub decreases-loop-head : goal.decreases-loop-head
-decreases-loop-head g l = SESSION_END - l.reader.progress.place
+abbrev pub decreases-loop-request : goal.decreases-loop-request
+decreases-loop-request g l = SESSION_END - l.reader.progress.place

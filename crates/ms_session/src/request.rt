@@ -1,0 +1,52 @@
+//! What comes off a session's source.
+
+ghost use Rattle.std.specs.Prelude.{◌≡◌, ◌<◌, ◌≤◌, ◌↔◌, None, IfErr, IfNone, IfOk, IfSome, IsErrOf, IsTrue, OnSome};
+ghost use Rattle.std.specs.Io.KnownBytes.{IsAtEnd};
+ghost use Rattle.hms_outside.specs.Causes.{Rose};
+ghost use Rattle.ms_structs.specs.Getting.{Gets};
+ghost use Rattle.thrift_binary.specs.Messages.{Asks, StopsMessage};
+ghost use Rattle.thrift_binary.specs.Openings.{IsInside};
+ghost use Rattle.thrift_binary.specs.Taking.{fresh};
+ghost use Rattle.ms_session.specs.Requests.{Fits, IsNext, SaysRequest};
+
+use hms_outside::Source;
+use ms_calls::{Asked, asked};
+use std::alloc::Global;
+use thrift_binary::{Head, WireFault, WireReader};
+
+/// A message of a session: its head, and what it asks.
+#[derive(Drop)]
+pub struct Request {
+    pub head: Head,
+    pub asked: Asked,
+}
+
+impl Request {
+    /// Whether the message ends its session.
+    pub fn is_shutdown(&self) -> bool
+        ensures { IsTrue result ↔ (self.now.asked ≡ Asked.Shutdown) }
+    {
+        matches!(self.asked, Asked::Shutdown)
+    }
+}
+
+/// The next message, or `None` exactly at the end of the input.
+pub fn next_request<S: Source>(
+    alloc: Global,
+    reader: &mut WireReader<'_, S>,
+) -> Result<Option<Request>, WireFault>
+    ensures same_source { reader.new.source.ghost_name ≡ reader.old.source.ghost_name }
+    ensures later { S.faults reader.old.source.now ≤ S.faults reader.new.source.now }
+    ensures cause { reader.old.progress.fault ≡ None → IsErrOf result WireFault.ReadFault → Rose (S.faults reader.old.source.now) (S.faults reader.new.source.now) }
+    ensures reads { Gets (S.left reader.old.source.now) (S.left reader.new.source.now) (fresh reader.old.progress) reader.new.progress result IsNext SaysRequest (StopsMessage Asks) }
+    ensures end { IfOk result (λ request. IfNone request (IsAtEnd (S.left reader.new.source.now))) }
+    ensures inside { IfErr result (IsInside reader.old.progress) }
+    ensures forward { IfOk result (λ request. OnSome request (reader.old.progress.place < reader.new.progress.place)) }
+    ensures fits { IfOk result (λ request. IfSome request Fits) }
+{
+    let Some(head) = reader.head(alloc)? else {
+        return Ok(None);
+    };
+    let asked = asked(alloc, &head, reader)?;
+    Ok(Some(Request { head, asked }))
+}
