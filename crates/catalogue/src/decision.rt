@@ -96,15 +96,12 @@ fn decide_create(alloc: Global, cat: &Cat, _bars: &Bars, db: &DbArg, next: u64) 
 fn creation(alloc: Global, name: Text, rec: &DbRec, born: u64) -> Result<Change, NoMemory>
     ensures { IfOk result (λ made. made ≡ record { kind = EventKind.CreateDatabase; db = name; db_born = born; ops = Op.PutDb (kept_record rec.now) ∷ [] }) }
 {
-    let mut ops = ListOf::new(alloc);
-    ops.push(Op::PutDb {
-        rec: kept_record(alloc, rec)?,
-    })?;
+    let rec = kept_record(alloc, rec)?;
     Ok(Change {
         kind: EventKind::CreateDatabase,
         db: name,
         db_born: born,
-        ops,
+        ops: ListOf::from_vec(vec![in alloc; Op::PutDb { rec }]?)?,
     })
 }
 
