@@ -1,16 +1,15 @@
 -- What a message asks, by its arguments.
-use Rattle.std.proofs.Common.{◌≡◌, ℕ, ℤ, List, Option, Some, None, pos, refl, sym, ap, ◌∙◌}
+use Rattle.std.proofs.Common.{◌≡◌, Option, Some, None, pos, refl, ap, ◌∙◌}
 use Rattle.ms_calls.specs.declared.method.Method.{Method}
 use Rattle.ms_calls.specs.declared.method.Method.TheVariants as method
-use Rattle.ms_structs.specs.declared.got.Got.TheVariants.{Nothing}
 use Rattle.ms_calls.specs.declared.naming.NameArgument.{NameArgument}
 use Rattle.ms_calls.specs.declared.creating.DatabaseArgument.{DatabaseArgument}
 use Rattle.ms_calls.specs.declared.ugi.UserArguments.{UserArguments}
 use Rattle.ms_calls.specs.Arguments.{name_none, name_set, name_asks, get_database_asks, db_none, db_set, db_asks, create_database_asks, user_none, user_set, user_asks, set_ugi_asks}
-use Rattle.ms_calls.specs.Asked.{asked_by, asked_of, SameByIds, OrderOfFieldsIsFree}
+use Rattle.ms_calls.specs.Asked.{asked_by, SameByIds, OrderOfFieldsIsFree}
 use Rattle.ms_structs.specs.Database.{database_of}
 use Rattle.ms_calls.specs.Methods.{method_named}
-use Rattle.ms_structs.specs.Slots.{slot, said, over, fold_fields}
+use Rattle.ms_structs.specs.Slots.{said, over, fold_fields}
 use Rattle.thrift_binary.specs.Tree.{Fields, NoFields, Field}
 use Rattle.ms_structs.specs.Values.{items_of, text_of}
 use Rattle.ms_structs.proofs.Said.{over_nothing, slot_over, said_same}

@@ -1,8 +1,7 @@
 -- What a message asks fits its name.
-use Rattle.std.proofs.Common.{◌≡◌, ℕ, ℤ, pos, List, [], Option, Some, None, Result, Ok, Err, refl, sym, subst}
+use Rattle.std.proofs.Common.{◌≡◌, ℕ, pos, List, Option, Some, None, Result, Ok, Err, refl, sym, subst}
 use Rattle.std.specs.Prelude.{IfOk}
 use Rattle.cat_types.specs.declared.arguments.DbArg.{DbArg}
-use Rattle.cat_types.specs.declared.calls.Call.{Call}
 use Rattle.ms_structs.specs.declared.got.Got.{Got}
 use Rattle.ms_structs.specs.declared.got.Got.TheVariants.{Nothing, BadText, Is}
 use Rattle.ms_structs.specs.Database.{database_of}

@@ -1,5 +1,5 @@
 -- What a message asks. It depends on the call's name and on what is said of each argument: by the last field with the argument's id and type.
-use Rattle.std.specs.Prelude.{◌≡◌, ⊤, ℕ, List, [], ◌∷◌, Option, None, Some, ℤ, pos, codes}
+use Rattle.std.specs.Prelude.{◌≡◌, ⊤, ℕ, List, [], ◌∷◌, Option, Some, ℤ, pos, codes}
 use Rattle.cat_types.specs.declared.calls.Call.{Call}
 use Rattle.cat_types.specs.declared.calls.Call.TheVariants.{CreateDatabase, GetAllDatabases, GetDatabase}
 use Rattle.cat_types.specs.declared.replies.Reply.{Reply}

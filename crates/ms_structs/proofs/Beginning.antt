@@ -1,5 +1,5 @@
 -- What begins a value: nothing at all stops to be one.
-use Rattle.std.proofs.Common.{◌≡◌, ◌≢◌, ℕ, ◌<◌, ◌≤◌, List, [], ◌++◌, length, refl, sym, ap, arith, inl, inr, zero, suc, ◌⊎◌, append-nil}
+use Rattle.std.proofs.Common.{◌≡◌, ℕ, ◌<◌, ◌≤◌, List, [], refl, sym, ap, arith, inl, inr, zero, suc, ◌⊎◌, append-nil}
 use Rattle.thrift_binary.specs.Taking.{Stop, Cut, Large}
 use Rattle.thrift_binary.specs.Tree.{Fields, NoFields}
 use Rattle.thrift_binary.specs.Wire.{IsCode, IsNested, IsElementType, AreFields, StopsPlain, StopsFields, StopsWire}

@@ -1,14 +1,12 @@
 -- What is written reads back.
-use Rattle.std.proofs.Common.{◌≡◌, ◌==◌, ◌||◌, if◌then◌else◌, Bool, false, ℕ, List, [], ◌∷◌, ◌++◌, Option, Some, None, true, refl, sym, ap, ◌∙◌, subst, pos, append_assoc, append-nil}
+use Rattle.std.proofs.Common.{◌≡◌, ◌==◌, ◌||◌, if◌then◌else◌, Bool, false, ℕ, List, [], ◌∷◌, ◌++◌, Option, Some, None, true, refl, sym, ap, ◌∙◌, subst, append_assoc, append-nil}
 use Rattle.std.specs.Str.{IsUtf8, is_utf8}
 use Rattle.std.proofs.lemmas.Str.{is_utf8-from_IsUtf8}
 use Rattle.std.specs.Cmp.Lexicographic.{slice_cmp, nat_list_cmp_total}
-use Rattle.std.specs.List.{AllByRecursion}
 use Rattle.std.specs.List.Sorted.{IsStrictlySortedBy}
 use Rattle.std.specs.Map.{keys_of}
 use Rattle.std.specs.Ordering.{nat_cmp}
 use Rattle.cat_values.proofs.MapLemmas.{insert_last}
-use Rattle.cat_types.specs.declared.arguments.DbArg.{DbArg}
 use Rattle.thrift_binary.specs.Tree.{Wire, Bytes, entries_count}
 use Rattle.thrift_binary.specs.Building.{entries_of}
 use Rattle.ms_structs.specs.declared.got.Got.TheVariants.{Nothing, Is}
