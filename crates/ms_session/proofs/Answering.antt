@@ -1,5 +1,5 @@
 -- One message is carried out, and its reply sent.
-use Rattle.std.proofs.Common.{◌≡◌, ◌==◌, ◌≢◌, true, false, ℕ, ◌⊎◌, List, [], ◌∷◌, ◌++◌, take, IsTrue, Bool, Option, Some, None, Result, Ok, Err, IfOk, MatchResult, OnErr, OnOk, refl, sym, subst, inl, inr}
+use Rattle.std.proofs.Common.{◌≡◌, ◌==◌, true, false, ℕ, ◌⊎◌, List, [], ◌∷◌, ◌++◌, take, IsTrue, Bool, Option, Some, None, Result, Ok, Err, IfOk, MatchResult, OnErr, OnOk, refl, sym, subst, inl, inr}
 use Rattle.std.proofs.lemmas.List.{append-nil}
 use Rattle.hms_outside.specs.Clocks.{Ticks}
 use Rattle.hms_outside.specs.Told.{Goes, Grew, Held, Same, Sent}
@@ -10,7 +10,6 @@ use Rattle.desk.specs.Adds.{Adds}
 use Rattle.desk.specs.Entries.{Others}
 use Rattle.desk.specs.History.{Entry}
 use Rattle.desk.proofs.Additions.{adds_none, adds_one}
-use Rattle.thrift_binary.specs.declared.head.Head.{Head}
 use Rattle.ms_calls.specs.Refusals.{out_of_memory}
 use Rattle.ms_calls.specs.declared.request.Asked.{Asked}
 use Rattle.ms_calls.specs.declared.request.Asked.TheVariants.{Client}

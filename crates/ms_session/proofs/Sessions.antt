@@ -1,5 +1,5 @@
 -- A session goes on, and ends.
-use Rattle.std.proofs.Common.{◌≡◌, ◌≢◌, ℕ, ◌+◌, ◌<◌, ◌≤◌, ◌⊎◌, List, [], ◌∷◌, ◌++◌, length, Option, Some, None, Err, refl, sym, ap, ◌∙◌, subst, arith, inl, inr, length-append}
+use Rattle.std.proofs.Common.{◌≡◌, ℕ, ◌+◌, ◌<◌, ◌≤◌, ◌⊎◌, List, [], ◌∷◌, ◌++◌, length, Option, Some, None, Err, refl, sym, ap, ◌∙◌, subst, arith, inl, inr, length-append}
 use Rattle.std.specs.Io.KnownBytes.{Consumes, IsAtEnd}
 use Rattle.std.proofs.KnownBytes.{Consumes-nil, Consumes-trans}
 use Rattle.std.proofs.lemmas.List.{append-nil}
@@ -13,15 +13,14 @@ use Rattle.thrift_binary.specs.declared.fault.WireFault.TheVariants.{Truncated, 
 use Rattle.thrift_binary.specs.declared.progress.Progress.{Progress}
 use Rattle.thrift_binary.specs.Messages.{Asks, Message, IsMessage, StopsMessage}
 use Rattle.thrift_binary.specs.Openings.{IsInside}
-use Rattle.thrift_binary.specs.Taking.{Stop, Cut, Tells, Took, fresh, room_at, start}
+use Rattle.thrift_binary.specs.Taking.{Stop, Cut, Tells, Took, fresh, room_at}
 use Rattle.thrift_binary.proofs.Reading.{Took-place, Took-weaker}
 use Rattle.ms_calls.specs.declared.request.Asked.{Asked}
 use Rattle.ms_calls.specs.declared.request.Asked.TheVariants as ask
 use Rattle.ms_structs.specs.Getting.{Begun, Gets}
-use Rattle.ms_session.specs.Replies.{reply_bytes, sent_for}
-use Rattle.ms_session.specs.Requests.{IsNext, IsRequestOf, SaysRequest, asks}
-use Rattle.ms_session.specs.Session.{Interrupted, IsFront, IsPart, IsShutdown, Met, Served, Session, end_of_fault}
-use Rattle.ms_session.specs.Turns.{AnswersBy, Begins, Carried, Due, GrewPart, IsTurn, Replied, Replies, Turn, replies_of}
+use Rattle.ms_session.specs.Requests.{IsNext, SaysRequest, asks}
+use Rattle.ms_session.specs.Session.{Interrupted, IsPart, IsShutdown, Met, Served, Session, end_of_fault}
+use Rattle.ms_session.specs.Turns.{AnswersBy, Begins, Carried, Due, IsTurn, Replied, Replies, Turn, replies_of}
 use Rattle.ms_session.specs.declared.end.End.TheVariants as ended
 use Rattle.ms_session.specs.declared.request.Request.{Request}
 use Rattle.ms_session.proofs.Turns.{carried_more, replied_more, replied_none}

@@ -3,14 +3,13 @@ use Rattle.std.proofs.Common.{◌≡◌, ℕ, ◌+◌, ◌≤◌, List, [], ◌�
 use Rattle.std.specs.Io.KnownBytes.{Consumes, IsAtEnd}
 use Rattle.std.proofs.lemmas.List.{append-nil}
 use Rattle.desk.specs.History.{Entry}
-use Rattle.thrift_binary.specs.Messages.{Asks, Message, Ending, Boundary, Truncated, Bad_at, Large_at, Ends, AreMessages, IsMessage, Spells, SpellsFrom}
+use Rattle.thrift_binary.specs.Messages.{Asks, Message, Ending, Boundary, Truncated, Bad_at, Large_at, Ends, AreMessages, Spells}
 use Rattle.thrift_binary.specs.Laws.{IsFinal}
 use Rattle.thrift_binary.specs.Taking.{room_at}
 use Rattle.thrift_binary.proofs.OneText.{cut_anywhere, ends_at_boundary, one_more, reads_one_way, stays_so}
 use Rattle.ms_session.specs.Laws.{AllAnswered, EndsWith, WholeTextsAreServed}
-use Rattle.ms_session.specs.Session.{IsShutdown, Met, Served, Session}
+use Rattle.ms_session.specs.Session.{IsShutdown, Met, Served}
 use Rattle.ms_session.specs.Turns.{Turn}
-use Rattle.ms_session.specs.declared.end.End.{End}
 use Rattle.ms_session.specs.declared.end.End.TheVariants as ended
 
 -- the messages that were carried out
