@@ -149,12 +149,19 @@ fn put_answer(alloc: Global, head: &Head, asked: Asked, writer: &mut WireWriter)
     requires client { IfClient asked (λ call. method_named head.now.name ≡ Some (method_of call)) }
 {
     match asked {
-        Asked::Plain(reply) => put_reply(writer, head, &reply)?,
-        Asked::Client(call) => put_reply(writer, head, &answer(alloc, call)?)?,
-        Asked::Unknown => put_reply(writer, head, &unknown_method(alloc)?)?,
-        Asked::BadArgument(id) => put_reply(writer, head, &bad_argument(alloc, id)?)?,
-        Asked::Shutdown => {}
+        Asked::Plain(reply) => put(writer, head, Ok(reply)),
+        Asked::Client(call) => put(writer, head, answer(alloc, call)),
+        Asked::Unknown => put(writer, head, unknown_method(alloc).map_err(Fail::from)),
+        Asked::BadArgument(id) => put(writer, head, bad_argument(alloc, id).map_err(Fail::from)),
+        Asked::Shutdown => Ok(()),
     }
+}
+
+// Gathers a reply that the message with this head can have, where it was made.
+fn put(writer: &mut WireWriter, head: &Head, reply: Result<Reply, Fail>) -> Result<(), Fail>
+    requires { IfOk reply (CanReply (method_named head.now.name)) }
+{
+    put_reply(writer, head, &reply?)?;
     Ok(())
 }
 
