@@ -10,9 +10,6 @@ use Rattle.std.proofs.lemmas.List.{get_or_default}
 use Rattle.std.proofs.lemmas.Map.Made.{AllPairs-from_IsDistinct, IsDistinct-from_AllPairs}
 use Rattle.std.proofs.lemmas.Slice.Eq.{bytes_eq-Decides}
 use Rattle.cat_values.specs.declared.storage.Column.{Column}
-use Rattle.cat_rules.specs.declared.columns.TheConstants.{KEY_LIMIT}
-use Rattle.cat_rules.specs.declared.names.TheConstants.{NAME_LIMIT, UNDERSCORE}
-use Rattle.cat_rules.specs.declared.patterns.TheConstants.{ANY_ONE, RUN}
 use Rattle.cat_rules.specs.Names.{IsNameByte, is_name_byte, HasNameLength, has_name_length, IsObjectName, is_object_name}
 use Rattle.cat_rules.specs.Patterns.{StandsFor, BehindFront, BehindOne, Fits, Matches, alternatives, holds_of_end, stands_for, holds_behind_one, does_fit, does_match}
 use Rattle.cat_rules.specs.Tables.{names_of, AreNamed, are_named, AreApart, are_distinct, FitTogether, do_fit_together}
@@ -31,10 +28,10 @@ all-Decides p P each xs = Decides-by_and p P (list_all p) each refl (λ _ _. ref
 
 -- names
 name_byte-Decides : (byte : ℕ) → Decides (is_name_byte byte) (IsNameByte byte)
-name_byte-Decides byte = Decides-or _ _ (Decides-or _ _ (Decides-or _ _ (range-Decides 48 57 byte) (range-Decides 65 90 byte)) (range-Decides 97 122 byte)) (Decides-eqb byte UNDERSCORE)
+name_byte-Decides byte = Decides-or _ _ (Decides-or _ _ (Decides-or _ _ (range-Decides 48 57 byte) (range-Decides 65 90 byte)) (range-Decides 97 122 byte)) (Decides-eqb byte 95)
 
 name_length-Decides : (name : List ℕ) → Decides (has_name_length name) (HasNameLength name)
-name_length-Decides name = Decides-and _ _ (leb-Decides 1 (length name)) (leb-Decides (length name) NAME_LIMIT)
+name_length-Decides name = Decides-and _ _ (leb-Decides 1 (length name)) (leb-Decides (length name) 128)
 
 pub object_name-Decides : (name : List ℕ) → Decides (is_object_name name) (IsObjectName name)
 object_name-Decides name = Decides-and _ _ (name_length-Decides name) (all-Decides is_name_byte IsNameByte name_byte-Decides name)
@@ -47,7 +44,7 @@ named-Decides cols keys = Decides-like (are_named cols keys)
     (Decides-and _ _ (Decides-and _ _
     (all-Decides (λ (col : Column). has_name_length col.name) (λ col. HasNameLength col.name) (λ col. name_length-Decides col.name) cols)
     (all-Decides (λ (key : Column). is_object_name key.name) (λ key. IsObjectName key.name) (λ key. object_name-Decides key.name) keys))
-    (leb-Decides (length keys) KEY_LIMIT))
+    (leb-Decides (length keys) 16))
 
 both_false : (a b : Bool) → (a || b) ≡ false → (a ≡ false) × (b ≡ false)
 both_false true b e = absurd (false≢true (sym e))
@@ -81,7 +78,7 @@ fit_together-Decides cols keys = Decides-like (do_fit_together cols keys)
 
 -- patterns
 stands_for-Decides : (sign c : ℕ) → Decides (stands_for sign c) (StandsFor sign c)
-stands_for-Decides sign c = Decides-or _ _ (Decides-eqb sign ANY_ONE) (Decides-eqb _ _)
+stands_for-Decides sign c = Decides-or _ _ (Decides-eqb sign 46) (Decides-eqb _ _)
 
 end-Decides : (test : List ℕ → Bool) (P : List ℕ → Type 0) → ((name : List ℕ) → Decides (test name) (P name)) → (name : List ℕ) → Decides (holds_of_end test name) (BehindFront P name)
 end-Decides test P each [] = Decides-like (test []) (λ p. ([], [], refl, p)) (λ b. whole b.0 b.1 b.2 b.3) (each [])
@@ -109,16 +106,16 @@ one-Decides sign test P each (c ∷ name) = Decides-like (holds_behind_one sign 
 pub fit-Decides : (signs name : List ℕ) → Decides (does_fit signs name) (Fits signs name)
 fit-Decides [] [] = (λ _. refl, λ _. refl)
 fit-Decides [] (c ∷ name) = (λ e. absurd (false≢true e), λ e. absurd (cc))
-fit-Decides (sign ∷ signs) name = sign-Decides sign (does_fit signs) (Fits signs) (fit-Decides signs) name (eqb sign RUN) refl
+fit-Decides (sign ∷ signs) name = sign-Decides sign (does_fit signs) (Fits signs) (fit-Decides signs) name (eqb sign 42) refl
   where
-    sign-Decides : (sign : ℕ) (test : List ℕ → Bool) (P : List ℕ → Type 0) → ((name : List ℕ) → Decides (test name) (P name)) → (name : List ℕ) (b : Bool) → eqb sign RUN ≡ b → Decides (if b then holds_of_end test name else holds_behind_one sign test name) (((sign ≡ RUN) × BehindFront P name) ⊎ ((sign ≢ RUN) × BehindOne sign P name))
+    sign-Decides : (sign : ℕ) (test : List ℕ → Bool) (P : List ℕ → Type 0) → ((name : List ℕ) → Decides (test name) (P name)) → (name : List ℕ) (b : Bool) → eqb sign 42 ≡ b → Decides (if b then holds_of_end test name else holds_behind_one sign test name) (((sign ≡ 42) × BehindFront P name) ⊎ ((sign ≢ 42) × BehindOne sign P name))
     sign-Decides sign test P each name true e = Decides-like (holds_of_end test name)
-        (λ b. inl ((Decides-eqb sign RUN).0 e, b))
-        (λ h. elim h [ inl w ↦ w.1 | inr w ↦ absurd (w.0 ((Decides-eqb sign RUN).0 e)) ])
+        (λ b. inl ((Decides-eqb sign 42).0 e, b))
+        (λ h. elim h [ inl w ↦ w.1 | inr w ↦ absurd (w.0 ((Decides-eqb sign 42).0 e)) ])
         (end-Decides test P each name)
     sign-Decides sign test P each name false e = Decides-like (holds_behind_one sign test name)
-        (λ b. inr (λ r. false≢true (sym e ∙ (Decides-eqb sign RUN).1 r), b))
-        (λ h. elim h [ inl w ↦ absurd (false≢true (sym e ∙ (Decides-eqb sign RUN).1 w.0)) | inr w ↦ w.1 ])
+        (λ b. inr (λ r. false≢true (sym e ∙ (Decides-eqb sign 42).1 r), b))
+        (λ h. elim h [ inl w ↦ absurd (false≢true (sym e ∙ (Decides-eqb sign 42).1 w.0)) | inr w ↦ w.1 ])
         (one-Decides sign test P each name)
 
 pub match-Decides : (pattern name : List ℕ) → Decides (does_match pattern name) (Matches pattern name)

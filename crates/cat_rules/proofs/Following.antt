@@ -1,7 +1,6 @@
 -- How signs are followed along a name.
 use Rattle.std.proofs.Common.{◌≡◌, ◌≢◌, ℕ, ◌+◌, ◌<◌, ◌≤◌, suc, List, [], ◌∷◌, ◌++◌, length, drop, refl, sym, ap, ◌∙◌, subst, inl, inr, arith}
 use Rattle.std.proofs.lemmas.List.{length-append, append_assoc}
-use Rattle.cat_rules.specs.declared.patterns.TheConstants.{RUN}
 use Rattle.cat_rules.specs.Patterns.{StandsFor, Fits, FitsBehindRun, StandFor, Along}
 
 -- what fits behind signs that stand for a front fits with them
@@ -38,21 +37,21 @@ cut_behind (c ∷ m) n [] b e h = absurd (omega arith)
 cut_behind (c ∷ m) n (d ∷ u) b e h = (let tails : m ++ n ≡ u ++ b = cc in cut_behind m n u b tails (omega arith))
 
 -- signs that go along a name as far as a run match it where those behind the run match an end of the rest
-pub fits_to_run : (signs name later rest : List ℕ) → Along signs name (RUN ∷ later) rest → Fits signs name → FitsBehindRun later rest
+pub fits_to_run : (signs name later rest : List ℕ) → Along signs name (42 ∷ later) rest → Fits signs name → FitsBehindRun later rest
 fits_to_run signs name later rest a h =
-    elim (fits_behind a.before a.front (RUN ∷ later) rest a.stand (subst (λ (s : List ℕ). Fits s (a.front ++ rest)) a.signs_are (subst (λ (n : List ℕ). Fits signs n) a.name_is h))) [
+    elim (fits_behind a.before a.front (42 ∷ later) rest a.stand (subst (λ (s : List ℕ). Fits s (a.front ++ rest)) a.signs_are (subst (λ (n : List ℕ). Fits signs n) a.name_is h))) [
       | inl w ↦ w.1
       | inr w ↦ absurd (w.0 refl)
     ]
 
-pub fits_from_run : (signs name later rest : List ℕ) → Along signs name (RUN ∷ later) rest → FitsBehindRun later rest → Fits signs name
+pub fits_from_run : (signs name later rest : List ℕ) → Along signs name (42 ∷ later) rest → FitsBehindRun later rest → Fits signs name
 fits_from_run signs name later rest a h =
-    rw (a.signs_are, a.name_is) (fits_before a.before a.front (RUN ∷ later) rest a.stand (inl (refl, h)))
+    rw (a.signs_are, a.name_is) (fits_before a.before a.front (42 ∷ later) rest a.stand (inl (refl, h)))
 
 -- the same of signs behind a run: the first place at which they go as far as the next run is enough
-pub behind_to_run : (signs name later rest : List ℕ) → Along signs name (RUN ∷ later) rest → FitsBehindRun signs name → FitsBehindRun later rest
+pub behind_to_run : (signs name later rest : List ℕ) → Along signs name (42 ∷ later) rest → FitsBehindRun signs name → FitsBehindRun later rest
 behind_to_run signs name later rest a h =
-    let t = front_taken a.before a.front (RUN ∷ later) h.1 a.stand (subst (λ (s : List ℕ). Fits s h.1) a.signs_are h.3) in
+    let t = front_taken a.before a.front (42 ∷ later) h.1 a.stand (subst (λ (s : List ℕ). Fits s h.1) a.signs_are h.3) in
     elim t.4 [
       | inl w ↦ (
           let e : a.front ++ rest ≡ ((h.0 ++ t.0) ++ w.1.0) ++ w.1.1 = sym a.name_is ∙ h.2 ∙ ap (λ (y : List ℕ). h.0 ++ y) (t.2 ∙ ap (λ (z : List ℕ). t.0 ++ z) w.1.2) ∙ sym (append_assoc h.0 t.0 (w.1.0 ++ w.1.1)) ∙ sym (append_assoc (h.0 ++ t.0) w.1.0 w.1.1) in
@@ -61,7 +60,7 @@ behind_to_run signs name later rest a h =
       | inr w ↦ absurd (w.0 refl)
     ]
 
-pub behind_from_run : (signs name later rest : List ℕ) → Along signs name (RUN ∷ later) rest → FitsBehindRun later rest → FitsBehindRun signs name
+pub behind_from_run : (signs name later rest : List ℕ) → Along signs name (42 ∷ later) rest → FitsBehindRun later rest → FitsBehindRun signs name
 behind_from_run signs name later rest a h = ([], name, refl, fits_from_run signs name later rest a h)
 
 -- signs that go along the whole of a name match it
@@ -91,13 +90,13 @@ behind_none signs name e differ h = behind_none_at h.0 h.2
 pub along_none : (signs name : List ℕ) → Along signs name signs name
 along_none signs name = record { before = []; front = []; signs_are = refl; name_is = refl; stand = tt }
 
-stand_push : (before front : List ℕ) (sign c : ℕ) → sign ≢ RUN → StandsFor sign c → StandFor before front → StandFor (before ++ sign ∷ []) (front ++ c ∷ [])
+stand_push : (before front : List ℕ) (sign c : ℕ) → sign ≢ 42 → StandsFor sign c → StandFor before front → StandFor (before ++ sign ∷ []) (front ++ c ∷ [])
 stand_push [] [] sign c n s h = (n, s, tt)
 stand_push [] (d ∷ ds) sign c n s h = absurd h
 stand_push (b ∷ bs) [] sign c n s h = absurd h
 stand_push (b ∷ bs) (d ∷ ds) sign c n s h = (h.0, h.1, stand_push bs ds sign c n s h.2)
 
-pub along_more : (signs name later rest : List ℕ) (sign c : ℕ) (later' rest' : List ℕ) → Along signs name later rest → later ≡ sign ∷ later' → rest ≡ c ∷ rest' → sign ≢ RUN → StandsFor sign c → Along signs name later' rest'
+pub along_more : (signs name later rest : List ℕ) (sign c : ℕ) (later' rest' : List ℕ) → Along signs name later rest → later ≡ sign ∷ later' → rest ≡ c ∷ rest' → sign ≢ 42 → StandsFor sign c → Along signs name later' rest'
 along_more signs name later rest sign c later' rest' a l r n s = record {
   before = a.before ++ sign ∷ [];
   front = a.front ++ c ∷ [];
@@ -111,7 +110,7 @@ pub fits_along : (signs name later rest : List ℕ) → Along signs name later r
 fits_along signs name later rest a h = fits_behind a.before a.front later rest a.stand (subst (λ (s : List ℕ). Fits s (a.front ++ rest)) a.signs_are (subst (λ (n : List ℕ). Fits signs n) a.name_is h))
 
 -- no sign that is no run fits at a name's end
-pub ended : (later rest : List ℕ) (sign : ℕ) (later' : List ℕ) → later ≡ sign ∷ later' → rest ≡ [] → sign ≢ RUN → Fits later rest → ⊥
+pub ended : (later rest : List ℕ) (sign : ℕ) (later' : List ℕ) → later ≡ sign ∷ later' → rest ≡ [] → sign ≢ 42 → Fits later rest → ⊥
 ended later rest sign later' l r n h =
     elim (subst (λ (s : List ℕ). Fits s rest) l h) [
       | inl w ↦ n w.0
@@ -119,7 +118,7 @@ ended later rest sign later' l r n h =
     ]
 
 -- nor before a character for which it doesn't stand
-pub differs : (later rest : List ℕ) (sign : ℕ) (later' : List ℕ) (c : ℕ) (rest' : List ℕ) → later ≡ sign ∷ later' → rest ≡ c ∷ rest' → sign ≢ RUN → (StandsFor sign c → ⊥) → Fits later rest → ⊥
+pub differs : (later rest : List ℕ) (sign : ℕ) (later' : List ℕ) (c : ℕ) (rest' : List ℕ) → later ≡ sign ∷ later' → rest ≡ c ∷ rest' → sign ≢ 42 → (StandsFor sign c → ⊥) → Fits later rest → ⊥
 differs later rest sign later' c rest' l r n unlike h =
     elim (subst (λ (s : List ℕ). Fits s rest) l h) [
       | inl w ↦ n w.0
@@ -131,6 +130,6 @@ pub left_over : (later rest : List ℕ) (c : ℕ) (rest' : List ℕ) → later �
 left_over later rest c rest' l r h = (let e : rest ≡ [] = subst (λ (s : List ℕ). Fits s rest) l h in cc)
 
 -- behind a run there are fewer signs, and no more of the name
-pub run_shorter : (signs name later rest : List ℕ) → Along signs name (RUN ∷ later) rest → length later + length rest < length signs + length name
+pub run_shorter : (signs name later rest : List ℕ) → Along signs name (42 ∷ later) rest → length later + length rest < length signs + length name
 run_shorter signs name later rest a =
-    omega (arith, ap length a.signs_are, ap length a.name_is, length-append a.before (RUN ∷ later), length-append a.front rest)
+    omega (arith, ap length a.signs_are, ap length a.name_is, length-append a.before (42 ∷ later), length-append a.front rest)

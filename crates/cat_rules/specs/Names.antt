@@ -1,22 +1,21 @@
--- What objects and columns may be called. A fact in capitals has a test beside it, which computes.
+-- What objects and columns may be called. A fact in capitals has a test beside it, which computes. 95 is the underscore.
 use Rattle.std.specs.Prelude.{◌≡◌, ◌==◌, ℕ, ◌≤◌, nat_le, Bool, ◌&&◌, ◌||◌, ◌⊎◌, List, length, All}
 use Rattle.std.specs.Char.{IsAsciiAlphanumeric, is_ascii_alphanumeric}
 use Rattle.std.specs.List.{list_all}
-use Rattle.cat_rules.specs.declared.names.TheConstants.{NAME_LIMIT, UNDERSCORE}
 
 -- an ASCII letter, a digit or an underscore
 abbrev pub IsNameByte : ℕ → Type 0
-IsNameByte byte = IsAsciiAlphanumeric byte ⊎ (byte ≡ UNDERSCORE)
+IsNameByte byte = IsAsciiAlphanumeric byte ⊎ (byte ≡ 95)
 
 abbrev pub is_name_byte : ℕ → Bool
-is_name_byte byte = is_ascii_alphanumeric byte || byte == UNDERSCORE
+is_name_byte byte = is_ascii_alphanumeric byte || byte == 95
 
 -- not empty, and no longer than a name may be
 abbrev pub HasNameLength : List ℕ → Type 0
-HasNameLength name = (1 ≤ length name) × (length name ≤ NAME_LIMIT)
+HasNameLength name = (1 ≤ length name) × (length name ≤ 128)
 
 abbrev pub has_name_length : List ℕ → Bool
-has_name_length name = nat_le 1 (length name) && nat_le (length name) NAME_LIMIT
+has_name_length name = nat_le 1 (length name) && nat_le (length name) 128
 
 -- the name of a database, a table or a partition key
 abbrev pub IsObjectName : List ℕ → Type 0

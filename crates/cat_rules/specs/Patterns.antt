@@ -1,15 +1,14 @@
--- Which names a pattern asks for. Alternatives and names are read as their characters.
+-- Which names a pattern asks for. Alternatives and names are read as their characters: 42 is *, 46 is . and 124 is |.
 use Rattle.std.specs.Prelude.{◌≡◌, ◌≢◌, ◌==◌, ℕ, ⊤, ◌⊎◌, Bool, true, false, ◌&&◌, ◌||◌, if◌then◌else◌, List, [], ◌∷◌, ◌++◌, Any}
 use Rattle.std.specs.Char.{to_ascii_lowercase}
 use Rattle.std.specs.List.{list_any, slice_split}
 use Rattle.std.specs.Str.{chars}
-use Rattle.cat_rules.specs.declared.patterns.TheConstants.{ANY_ONE, BAR, RUN}
 use Rattle.cat_rules.specs.declared.patterns.Reach.{Reach}
 use Rattle.cat_rules.specs.declared.patterns.Reach.TheVariants.{Run, Whole, Nowhere}
 
 -- a sign that is no run stands for any character, or for itself in either case
 abbrev pub StandsFor : ℕ → ℕ → Type 0
-StandsFor sign c = (sign ≡ ANY_ONE) ⊎ (to_ascii_lowercase sign ≡ to_ascii_lowercase c)
+StandsFor sign c = (sign ≡ 46) ⊎ (to_ascii_lowercase sign ≡ to_ascii_lowercase c)
 
 -- P holds of what is left of the name behind some front
 abbrev pub BehindFront : (List ℕ → Type 0) → List ℕ → Type 0
@@ -23,7 +22,7 @@ BehindOne sign P name = (c : ℕ) × (rest : List ℕ) × (name ≡ c ∷ rest) 
 -- other sign for one
 abbrev pub Fits : List ℕ → List ℕ → Type 0
 Fits [] name = name ≡ []
-Fits (sign ∷ signs) name = ((sign ≡ RUN) × BehindFront (Fits signs) name) ⊎ ((sign ≢ RUN) × BehindOne sign (Fits signs) name)
+Fits (sign ∷ signs) name = ((sign ≡ 42) × BehindFront (Fits signs) name) ⊎ ((sign ≢ 42) × BehindOne sign (Fits signs) name)
 
 -- the signs behind a run match an end of a name
 abbrev pub FitsBehindRun : List ℕ → List ℕ → Type 0
@@ -31,7 +30,7 @@ FitsBehindRun signs name = BehindFront (Fits signs) name
 
 -- the parts of a pattern between its bars
 abbrev pub alternatives : List ℕ → List (List ℕ)
-alternatives pattern = slice_split (λ byte. byte == BAR) pattern
+alternatives pattern = slice_split (λ byte. byte == 124) pattern
 
 -- one alternative matches the name whole
 abbrev pub Matches : List ℕ → List ℕ → Type 0
@@ -44,7 +43,7 @@ holds_of_end test [] = test []
 holds_of_end test (c ∷ name) = test (c ∷ name) || holds_of_end test name
 
 abbrev pub stands_for : ℕ → ℕ → Bool
-stands_for sign c = sign == ANY_ONE || to_ascii_lowercase sign == to_ascii_lowercase c
+stands_for sign c = sign == 46 || to_ascii_lowercase sign == to_ascii_lowercase c
 
 abbrev pub holds_behind_one : ℕ → (List ℕ → Bool) → List ℕ → Bool
 holds_behind_one sign test [] = false
@@ -56,7 +55,7 @@ is_empty (c ∷ name) = false
 
 abbrev pub does_fit : List ℕ → List ℕ → Bool
 does_fit [] name = is_empty name
-does_fit (sign ∷ signs) name = if sign == RUN then holds_of_end (does_fit signs) name else holds_behind_one sign (does_fit signs) name
+does_fit (sign ∷ signs) name = if sign == 42 then holds_of_end (does_fit signs) name else holds_behind_one sign (does_fit signs) name
 
 abbrev pub does_match : List ℕ → List ℕ → Bool
 does_match pattern name = list_any (λ alternative. does_fit (chars alternative) (chars name)) (alternatives pattern)
@@ -66,7 +65,7 @@ abbrev pub StandFor : List ℕ → List ℕ → Type 0
 StandFor [] [] = ⊤
 StandFor [] (c ∷ cs) = ⊥
 StandFor (sign ∷ signs) [] = ⊥
-StandFor (sign ∷ signs) (c ∷ cs) = (sign ≢ RUN) × StandsFor sign c × StandFor signs cs
+StandFor (sign ∷ signs) (c ∷ cs) = (sign ≢ 42) × StandsFor sign c × StandFor signs cs
 
 -- the signs that come before the later ones stand for the front of the name, up to its rest
 pub record Along (signs name later rest : List ℕ) : Type 0 where
@@ -78,6 +77,6 @@ pub record Along (signs name later rest : List ℕ) : Type 0 where
 
 -- how far signs go along a name
 abbrev pub Reached : List ℕ → List ℕ → Reach → Type 0
-Reached signs name (Run later rest) = Along signs name (RUN ∷ chars later.now) (chars rest.now)
+Reached signs name (Run later rest) = Along signs name (42 ∷ chars later.now) (chars rest.now)
 Reached signs name Whole = Along signs name [] []
 Reached signs name Nowhere = Fits signs name → ⊥

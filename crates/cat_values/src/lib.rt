@@ -3,6 +3,7 @@
 #![tactic(auto)]
 
 mod copying;
+mod laws;
 mod list_of;
 mod map_of;
 mod memory;
@@ -12,6 +13,7 @@ mod storage;
 mod text;
 
 pub use copying::{CopyParts, TryCopy};
+pub use laws::sizes_are_bounded;
 pub use list_of::{Bytes, LIST_END, ListOf, Texts};
 pub use map_of::{MAP_END, MapOf, Params};
 pub use memory::NoMemory;

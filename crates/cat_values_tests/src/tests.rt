@@ -63,6 +63,13 @@ fn a_list_gives_what_was_put(rt: HostRuntime) -> Result<(), Fail> {
     Ok(())
 }
 
+#[test]
+fn a_vector_is_a_list_without_a_copy(rt: HostRuntime) -> Result<(), Fail> {
+    let list = Bytes::from_vec(b"ab".to_vec(rt.alloc())?)?;
+    assert_eq!(rt; list.as_slice(), b"ab".as_slice());
+    Ok(())
+}
+
 fn put(alloc: Global, map: &mut Params, key: &str, value: &str) -> Result<(), Fail> {
     let key = text(alloc, key)?;
     let value = text(alloc, value)?;
@@ -87,6 +94,8 @@ fn a_map_gives_what_was_put(rt: HostRuntime) -> Result<(), Fail> {
     let copy = map.copy(alloc)?;
     let value = copy.get(&key).ok_or("no b")?;
     assert_eq!(rt; value.as_str(), "3");
+    let last = map.last_key().ok_or("no key")?;
+    assert_eq!(rt; last.as_str(), "b");
     Ok(())
 }
 

@@ -14,7 +14,6 @@ use Rattle.catalogue.specs.Rules.{create_refusal, decided_as, decision, is_named
 use Rattle.catalogue.specs.declared.bars.Bars.{Bars}
 use Rattle.catalogue.specs.declared.decided.Decided.{Decided}
 use Rattle.catalogue.specs.declared.decided.Decided.TheVariants as decided
-use Rattle.catalogue.specs.declared.decision.TheConstants.{DATABASE_LIMIT, LAST_EVENT}
 
 -- where no rule is broken, each test is false
 no_rule : (a b c d : Bool) (w x y z : ℕ) → (if a then Some w else (if b then Some x else (if c then Some y else (if d then Some z else None)))) ≡ None → (b ≡ false) × (d ≡ false)
@@ -36,9 +35,9 @@ creation_can : (cat : Catalogue) (db : DbArg) (next : ℕ) (o : Option ℕ) (c :
 creation_can cat db next (Some n) c r refused is = absurd cc
 creation_can cat db next None c r refused is =
     let same : c ≡ creation db next = cc in
-    let tests = no_rule (not (is_named db.name)) (has_database cat (kept_name db.name)) (nat_le DATABASE_LIMIT (length cat.databases)) (nat_lt LAST_EVENT next) 3 1 3 12 refused in
+    let tests = no_rule (not (is_named db.name)) (has_database cat (kept_name db.name)) (nat_le 1000000 (length cat.databases)) (nat_lt 9223372036854775807 next) 3 1 3 12 refused in
     let there : database cat (kept_name db.name) ≡ None = absent (database cat (kept_name db.name)) tests.0 in
-    ((kept_record db.rec, ap (λ (x : Change). x.ops) same, ap (λ (x : Change). database cat x.db) same ∙ there), ltb-false LAST_EVENT next tests.1)
+    ((kept_record db.rec, ap (λ (x : Change). x.ops) same, ap (λ (x : Change). database cat x.db) same ∙ there), ltb-false 9223372036854775807 next tests.1)
 
 -- a call that changes nothing
 no_change : (cat : Catalogue) (next : ℕ) (o : Option ℕ) (c : Change) (r s : Reply) → decided.Change c r ≡ decided_as o None s → CanBeDone cat next c

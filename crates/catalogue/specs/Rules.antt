@@ -21,7 +21,6 @@ use Rattle.catalogue.specs.declared.bars.Bars.{Bars}
 use Rattle.catalogue.specs.declared.bars.ReplicaAt.{ReplicaAt}
 use Rattle.catalogue.specs.declared.decided.Decided.{Decided}
 use Rattle.catalogue.specs.declared.decided.Decided.TheVariants as decided
-use Rattle.catalogue.specs.declared.decision.TheConstants.{DATABASE_LIMIT, LAST_EVENT}
 
 -- names of objects are read without regard to the case of ASCII letters
 abbrev pub lower : List ℕ → List ℕ
@@ -37,13 +36,13 @@ abbrev pub kept_name : Option (List ℕ) → List ℕ
 kept_name None = []
 kept_name (Some name) = lower name
 
--- the first of these rules that creating a database breaks: it has a lawful name, which is free; the store has room; and there is a number for the event
+-- the first of these rules that creating a database breaks: it has a lawful name, which is free; there are fewer than a million databases; and there is a number for the event
 abbrev pub create_refusal : Catalogue → DbArg → ℕ → Option ℕ
 create_refusal cat db next =
     if not (is_named db.name) then Some 3
     else (if has_database cat (kept_name db.name) then Some 1
-    else (if nat_le DATABASE_LIMIT (length cat.databases) then Some 3
-    else (if nat_lt LAST_EVENT next then Some 12
+    else (if nat_le 1000000 (length cat.databases) then Some 3
+    else (if nat_lt 9223372036854775807 next then Some 12
     else None)))
 
 -- the number of the refusal of a call, whose event would get the number `next`
@@ -121,7 +120,7 @@ OnDecided answer fact = fact
 
 -- a change that makes a database which isn't there, and whose event has a number that an event may have
 abbrev pub CanBeDone : Catalogue → ℕ → Change → Type 0
-CanBeDone cat next change = Creates change cat × (next ≤ LAST_EVENT)
+CanBeDone cat next change = Creates change cat × (next ≤ 9223372036854775807)
 
 -- a fact of the change that was decided, where there is one
 abbrev pub IfChange : Decided → (Change → Type 0) → Type 0

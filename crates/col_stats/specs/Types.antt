@@ -4,12 +4,11 @@ use Rattle.std.specs.Char.{to_ascii_lowercase}
 use Rattle.std.specs.Str.{bytes_eq}
 use Rattle.cat_values.specs.declared.statistics.StatValue.{StatValue}
 use Rattle.cat_values.specs.declared.statistics.StatValue.TheVariants.{Flags, Long, Str}
-use Rattle.col_stats.specs.declared.column_types.TheConstants.{SPACE}
 
--- a text without the spaces at its front, and without those at its back
+-- a text without the spaces (32) at its front, and without those at its back
 abbrev pub without_front_spaces : List ℕ → List ℕ
 without_front_spaces [] = []
-without_front_spaces (byte ∷ bytes) = if byte == SPACE then without_front_spaces bytes else byte ∷ bytes
+without_front_spaces (byte ∷ bytes) = if byte == 32 then without_front_spaces bytes else byte ∷ bytes
 
 abbrev pub without_back_spaces : List ℕ → List ℕ
 without_back_spaces text = reverse (without_front_spaces (reverse text))

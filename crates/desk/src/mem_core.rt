@@ -28,13 +28,12 @@ impl Model for MemCore {
 
 impl MemCore {
     ghost use Rattle.std.specs.Prelude.{◌≡◌, ◌≤◌, [], IfOk};
-    ghost use Rattle.catalogue.specs.declared.decision.TheConstants.{LAST_EVENT};
     ghost use Rattle.desk.specs.History.{run_of};
     ghost use Rattle.desk.specs.State.{start};
 
     /// A new store with this id, whose events are numbered from base + 1.
     pub fn new(alloc: Global, id: [u8; 16], base: u64) -> Result<MemCore, NoMemory>
-        requires { base ≤ LAST_EVENT }
+        requires { base ≤ 9223372036854775807 }
         ensures { IfOk result (λ core. core ≡ run_of (start id base) id base []) }
     {
         Ok(MemCore {

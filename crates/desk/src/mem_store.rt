@@ -3,7 +3,6 @@
 ghost use Rattle.std.specs.Prelude.{◌≡◌, ◌≤◌, ◌<◌, IfOk, OnErr, OnOk};
 ghost use Rattle.cat_types.specs.declared.steps.Step.TheVariants.{Client};
 ghost use Rattle.catalogue.specs.Changes.{Creates};
-ghost use Rattle.catalogue.specs.declared.decision.TheConstants.{LAST_EVENT};
 ghost use Rattle.desk.specs.State.{Takes, changed, start};
 
 use cat_types::{Answer, Call, Change, Event, ListOf, NoMemory, Step};
@@ -37,7 +36,7 @@ impl Model for MemStore {
 impl MemStore {
     /// A new store, whose events are numbered from base + 1.
     pub fn new(alloc: Global, id: [u8; 16], base: u64) -> Result<MemStore, NoMemory>
-        requires { base ≤ LAST_EVENT }
+        requires { base ≤ 9223372036854775807 }
         ensures { IfOk result (λ store. store ≡ start id base) }
     {
         Ok(MemStore {
@@ -82,7 +81,7 @@ impl MemStore {
     // Does a change, and keeps its event.
     fn accept(&mut self, change: Change, moment: u64) -> Result<(), NoMemory>
         requires creates { Creates change self.old.catalogue }
-        requires room { self.old.newest < LAST_EVENT }
+        requires room { self.old.newest < 9223372036854775807 }
         ensures ok { OnOk result (self.new ≡ changed self.old moment change) }
         ensures err { OnErr result (self.new ≡ self.old) }
     {

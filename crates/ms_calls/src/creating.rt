@@ -1,6 +1,6 @@
 //! The argument of the call that makes a database.
 
-ghost use Rattle.std.specs.Prelude.{◌≡◌, ℕ, ℤ, ◌≤◌, None, Some, IfOk, IsErrOf};
+ghost use Rattle.std.specs.Prelude.{◌≡◌, ℕ, ℤ, ◌≤◌, None, IfOk, IsErrOf};
 ghost use Rattle.ms_calls.specs.Arguments.{db_asks, db_none, db_set};
 
 use crate::{Arguments, Asked};
@@ -17,20 +17,12 @@ pub struct DatabaseArgument {
 }
 
 impl FieldSink for DatabaseArgument {
-    type Out = DatabaseArgument;
-
     ghost none = { db_none };
 
     ghost set = { db_set };
 
-    ghost whole = { Some };
-
     fn empty() -> DatabaseArgument {
         DatabaseArgument { db: Got::Nothing }
-    }
-
-    fn finish(self, _alloc: Global) -> Option<DatabaseArgument> {
-        Some(self)
     }
 
     fn take<S: Source>(

@@ -1,6 +1,6 @@
 //! The argument of a call on one name.
 
-ghost use Rattle.std.specs.Prelude.{◌≡◌, ℕ, ℤ, ◌≤◌, None, Some, IfOk, IsErrOf};
+ghost use Rattle.std.specs.Prelude.{◌≡◌, ℕ, ℤ, ◌≤◌, None, IfOk, IsErrOf};
 ghost use Rattle.ms_calls.specs.Arguments.{name_asks, name_none, name_set};
 
 use crate::{Arguments, Asked};
@@ -17,20 +17,12 @@ pub struct NameArgument {
 }
 
 impl FieldSink for NameArgument {
-    type Out = NameArgument;
-
     ghost none = { name_none };
 
     ghost set = { name_set };
 
-    ghost whole = { Some };
-
     fn empty() -> NameArgument {
         NameArgument { name: Got::Nothing }
-    }
-
-    fn finish(self, _alloc: Global) -> Option<NameArgument> {
-        Some(self)
     }
 
     fn take<S: Source>(

@@ -1,6 +1,6 @@
 //! The arguments of the call that names a user.
 
-ghost use Rattle.std.specs.Prelude.{◌≡◌, ℕ, ℤ, ◌≤◌, None, Some, IfOk, IsErrOf};
+ghost use Rattle.std.specs.Prelude.{◌≡◌, ℕ, ℤ, ◌≤◌, None, IfOk, IsErrOf};
 ghost use Rattle.ms_calls.specs.Arguments.{user_asks, user_none, user_set};
 
 use crate::{Arguments, Asked};
@@ -18,23 +18,15 @@ pub struct UserArguments {
 }
 
 impl FieldSink for UserArguments {
-    type Out = UserArguments;
-
     ghost none = { user_none };
 
     ghost set = { user_set };
-
-    ghost whole = { Some };
 
     fn empty() -> UserArguments {
         UserArguments {
             user: Got::Nothing,
             groups: Got::Nothing,
         }
-    }
-
-    fn finish(self, _alloc: Global) -> Option<UserArguments> {
-        Some(self)
     }
 
     fn take<S: Source>(

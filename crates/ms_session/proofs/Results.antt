@@ -13,7 +13,6 @@ use Rattle.cat_types.specs.declared.steps.Step.TheVariants as step
 use Rattle.catalogue.specs.Catalogue.{database, has_database}
 use Rattle.cat_types.specs.declared.changes.EventKind.TheVariants as kind
 use Rattle.cat_types.specs.declared.changes.Op.TheVariants.{PutDb}
-use Rattle.catalogue.specs.declared.decision.TheConstants.{DATABASE_LIMIT, LAST_EVENT}
 use Rattle.catalogue.specs.Rules.{decided_as, is_named, kept_name, kept_record, lower, shown_as}
 use Rattle.desk.specs.History.{Entry, IsLegal, Legal, MayAnswer, MayFollow, Place, Start, next, place_of, took}
 use Rattle.desk.specs.State.{State, bars, due_by}
@@ -52,7 +51,7 @@ can_answer p caller GetAllDatabases moment (answer.Reply r) fault may = same_can
 can_answer p caller (GetDatabase name) moment (answer.Reply r) fault may = got (database p.state.catalogue (lower name)) (λ held. shown_as held bars.replicas (lower name)) p.state moment r (λ found. tt) may
 can_answer p caller (CreateDatabase db) moment (answer.Reply r) fault may =
     let next = p.state.newest + 1 in
-    made (not (is_named db.name)) (has_database p.state.catalogue (kept_name db.name)) (nat_le DATABASE_LIMIT (length p.state.catalogue.databases)) (nat_lt LAST_EVENT next)
+    made (not (is_named db.name)) (has_database p.state.catalogue (kept_name db.name)) (nat_le 1000000 (length p.state.catalogue.databases)) (nat_lt 9223372036854775807 next)
     (record { kind = kind.CreateDatabase; db = kept_name db.name; db_born = next; ops = PutDb (kept_record db.rec) ∷ [] }) p.state moment r may
 
 -- ---- the last answer of a legal history

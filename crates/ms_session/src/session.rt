@@ -14,6 +14,7 @@ use crate::carrying::carry_out;
 use crate::reply::gather_reply;
 use crate::request::next_request;
 use crate::{End, Request};
+use cat_types::NoMemory;
 use desk::Desk;
 use hms_outside::{Clock, Folder, Sink, Source};
 use ms_calls::is_one_way;

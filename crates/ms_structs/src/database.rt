@@ -10,7 +10,9 @@ ghost use Rattle.ms_structs.specs.Written.{database_fields};
 ghost use Rattle.ms_structs.specs.Database.{database_made, database_none, database_of, database_set, database_whole};
 
 use crate::writing::{put_optional, put_params};
-use crate::{FieldSink, FromWire, Got, StructFault, read_struct, read_whole, skip_field};
+use crate::{
+    FieldSink, FromWire, Got, StructFault, StructSink, read_struct, read_whole, skip_field,
+};
 use cat_types::{DbArg, DbRec, MapOf, NoMemory, Params, Text};
 use hms_outside::Source;
 use std::alloc::Global;
@@ -27,13 +29,9 @@ pub struct DatabaseFields {
 }
 
 impl FieldSink for DatabaseFields {
-    type Out = DbArg;
-
     ghost none = { database_none };
 
     ghost set = { database_set };
-
-    ghost whole = { database_whole };
 
     fn empty() -> DatabaseFields {
         DatabaseFields {
@@ -43,23 +41,6 @@ impl FieldSink for DatabaseFields {
             params: Got::Nothing,
             owner: Got::Nothing,
         }
-    }
-
-    fn finish(self, alloc: Global) -> Option<DbArg> {
-        let name = self.name.optional()?;
-        let description = self.description.optional()?;
-        let location = self.location.optional()?;
-        let params = self.params.or(MapOf::new(alloc))?;
-        let owner = self.owner.optional()?;
-        Some(DbArg {
-            name,
-            rec: DbRec {
-                description,
-                location,
-                params,
-                owner,
-            },
-        })
     }
 
     fn take<S: Source>(
@@ -77,6 +58,29 @@ impl FieldSink for DatabaseFields {
             6 => self.owner.take(alloc, reader, ty),
             _ => skip_field(reader, ty),
         }
+    }
+}
+
+impl StructSink for DatabaseFields {
+    type Out = DbArg;
+
+    ghost whole = { database_whole };
+
+    fn finish(self, alloc: Global) -> Option<DbArg> {
+        let name = self.name.optional()?;
+        let description = self.description.optional()?;
+        let location = self.location.optional()?;
+        let params = self.params.or(MapOf::new(alloc))?;
+        let owner = self.owner.optional()?;
+        Some(DbArg {
+            name,
+            rec: DbRec {
+                description,
+                location,
+                params,
+                owner,
+            },
+        })
     }
 }
 

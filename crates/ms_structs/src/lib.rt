@@ -20,5 +20,5 @@ pub use got::{Got, said_or_bad};
 pub use laws::{database_is_said, order_is_free, written_is_read};
 pub use pairs::PairsSoFar;
 pub use struct_fault::StructFault;
-pub use structs::{FieldSink, read_slots, read_struct, read_whole};
+pub use structs::{FieldSink, StructSink, read_slots, read_struct, read_whole};
 pub use writing::{put_optional, put_params, put_texts};

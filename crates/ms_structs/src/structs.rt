@@ -15,25 +15,15 @@ use thrift_binary::{WireFault, WireReader};
 
 /// What gathers the fields of a struct: a slot for each field that is known.
 pub trait FieldSink: Drop {
-    /// What the fields make.
-    type Out: Drop;
-
     /// The slots before the first field.
     ghost none: { Self };
 
     /// The slots behind one more field, of this type and id.
     ghost set: { Self → ℕ → ℤ → Wire → Self };
 
-    /// What the slots make; `None` where a text is bad.
-    ghost whole: { Self → Option Self.Out };
-
     /// The slots before the first field.
     fn empty() -> Self
         ensures { result ≡ none };
-
-    /// What the slots make.
-    fn finish(self, alloc: Global) -> Option<Self::Out>
-        ensures { result ≡ whole self };
 
     /// Reads or skips the value of one field.
     fn take<S: Source>(
@@ -48,6 +38,19 @@ pub trait FieldSink: Drop {
         ensures later { S.faults reader.old.source.now ≤ S.faults reader.new.source.now }
         ensures cause { reader.old.progress.fault ≡ None → IsErrOf result WireFault.ReadFault → Rose (S.faults reader.old.source.now) (S.faults reader.new.source.now) }
         ensures reads { Gets (S.left reader.old.source.now) (S.left reader.new.source.now) reader.old.progress reader.new.progress result (λ w. IsWire w reader.old.progress.room ty) (λ w _. self.new ≡ set self.old ty id w) (StopsWire reader.old.progress.room ty) };
+}
+
+/// Slots that make a value of the struct.
+pub trait StructSink: FieldSink {
+    /// What the fields make.
+    type Out: Drop;
+
+    /// What the slots make; `None` where a text is bad.
+    ghost whole: { Self → Option Self.Out };
+
+    /// What the slots make.
+    fn finish(self, alloc: Global) -> Option<Self::Out>
+        ensures { result ≡ whole self };
 }
 
 // Reads the fields of a struct up to its end.
@@ -88,7 +91,7 @@ pub fn read_slots<F: FieldSink, S: Source>(
 }
 
 /// Reads a struct that stands in a field or in a list.
-pub fn read_struct<F: FieldSink, S: Source>(
+pub fn read_struct<F: StructSink, S: Source>(
     alloc: Global,
     reader: &mut WireReader<'_, S>,
 ) -> Result<Got<F::Out>, WireFault>
@@ -102,7 +105,7 @@ pub fn read_struct<F: FieldSink, S: Source>(
 }
 
 /// Reads a struct by itself, and tells a text that isn't UTF-8.
-pub fn read_whole<F: FieldSink, S: Source>(
+pub fn read_whole<F: StructSink, S: Source>(
     alloc: Global,
     reader: &mut WireReader<'_, S>,
 ) -> Result<F::Out, StructFault>

@@ -3,7 +3,6 @@ use Rattle.std.specs.Prelude.{◌≡◌, ◌≢◌, ℕ, ◌≤◌, ◌/◌, ◌
 use Rattle.std.specs.Char.{IsAsciiAlphanumeric, digit_char, to_ascii_uppercase}
 use Rattle.std.specs.Int.{is_in_range}
 use Rattle.std.specs.List.{flat_map, join_with_byte, list_any, zip}
-use Rattle.part_names.specs.declared.TheConstants.{VALUE_LIMIT, NAME_LIMIT}
 
 -- an ASCII letter, a digit or _
 abbrev pub IsNameByte : ℕ → Type 0
@@ -11,7 +10,7 @@ IsNameByte byte = IsAsciiAlphanumeric byte ⊎ (byte ≡ 95)
 
 -- not empty, and no longer than a name may be
 abbrev pub HasNameLength : List ℕ → Type 0
-HasNameLength name = (1 ≤ length name) × (length name ≤ NAME_LIMIT)
+HasNameLength name = (1 ≤ length name) × (length name ≤ 128)
 
 -- the name of a partition key
 abbrev pub IsObjectName : List ℕ → Type 0
@@ -19,7 +18,7 @@ IsObjectName name = HasNameLength name × All IsNameByte name
 
 -- no longer than a value may be, and without U+0000
 abbrev pub IsValidValue : List ℕ → Type 0
-IsValidValue value = (length value ≤ VALUE_LIMIT) × All (λ byte. byte ≢ 0) value
+IsValidValue value = (length value ≤ 4000) × All (λ byte. byte ≢ 0) value
 
 -- the value that stands for an empty one
 abbrev pub default_value : List ℕ

@@ -2,7 +2,6 @@
 
 ghost use Rattle.std.specs.Prelude.{◌≡◌, ◌≤◌, length, All, IfOk, OnOk, string_bytes};
 ghost use Rattle.part_names.specs.Making.{IsObjectName, IsValidValue, component, grown, part_name};
-ghost use Rattle.part_names.specs.declared.TheConstants.{KEYS_LIMIT};
 
 use crate::escapes::{push_escaped, text_of};
 use crate::values::stored_text;
@@ -13,7 +12,7 @@ use std::alloc::Global;
 /// written as `DEFAULT_VALUE`; keys stand as they are.
 pub fn make_name(alloc: Global, keys: &Texts, values: &Texts) -> Result<Text, NoMemory>
     requires as_many { length keys.now ≡ length values.now }
-    requires few { length keys.now ≤ KEYS_LIMIT }
+    requires few { length keys.now ≤ 16 }
     requires object_names { All IsObjectName keys.now }
     requires valid { All IsValidValue values.now }
     ensures { IfOk result (λ name. name ≡ part_name keys.now values.now) }

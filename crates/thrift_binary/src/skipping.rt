@@ -12,6 +12,9 @@ use hms_outside::Source;
 // Through how large a buffer the bytes of a text are passed.
 const PASSED: usize = 512;
 
+// And those of a short one: most texts are names, and a large buffer takes time to set up.
+const SHORT: usize = 32;
+
 impl<'a, S: Source> WireReader<'a, S> {
     /// Passes a value of this type, which must be the code of one: every byte is read and judged,
     /// and nothing is kept. Where it is a struct or a collection it is opened and closed here.
@@ -193,6 +196,10 @@ impl<'a, S: Source> WireReader<'a, S> {
         ensures reads { Reads (S.left self.old.source.now) (S.left self.new.source.now) self.old.progress self.new.progress result (λ _ bytes. length bytes ≡ n) (StopsShort n) }
         ensures unspent { OnOk result (self.new.progress.fault ≡ None) }
     {
+        if n <= SHORT {
+            let mut short = [0; SHORT];
+            return self.exact(&mut short[..n]);
+        }
         let mut buf = [0; PASSED];
         let mut left = n;
         while left > 0 {

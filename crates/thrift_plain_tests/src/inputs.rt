@@ -4,31 +4,13 @@ use crate::cases::Long;
 use std::alloc::Global;
 use std::test::Fail;
 
-/// The bytes that hexadecimal digits spell; what is no such digit parts them.
+/// The bytes that hexadecimal digits spell, with spaces between them.
 pub fn bytes_of(alloc: Global, digits: &str) -> Result<Vec<u8>, Fail> {
-    let mut bytes = Vec::new(alloc);
-    let mut high = None;
-    for letter in digits.as_bytes() {
-        if let Some(low) = digit_of(*letter) {
-            match high {
-                None => high = Some(low),
-                Some(first) => {
-                    bytes.push((first << 4) | low)?;
-                    high = None;
-                }
-            }
-        }
+    let mut packed = String::new(alloc);
+    for part in digits.split(' ') {
+        packed.push_str(part)?;
     }
-    Ok(bytes)
-}
-
-// The value of a hexadecimal digit.
-fn digit_of(letter: u8) -> Option<u8> {
-    match letter {
-        b'0'..=b'9' => Some(letter - b'0'),
-        b'a'..=b'f' => Some(letter - b'a' + 10),
-        _ => None,
-    }
+    Ok(hex::decode(alloc, packed).or(Err("no digits"))?)
 }
 
 /// The bytes of an input that has one of its parts many times.

@@ -117,14 +117,22 @@ fn lists_default_in_the_strict_form(rt: HostRuntime) -> Result<(), Fail> {
 }
 
 #[test]
-fn messages_in_every_form_are_answered(rt: HostRuntime) -> Result<(), Fail> {
-    let cases: [(&[u8], &[u8]); 5] = [
-        (b"", b""),
-        (UNKNOWN, UNKNOWN_REPLY),
-        (OLD_CALL, REPLY),
-        (ONE_WAY, b""),
-        (NESTED, NESTED_REPLY),
-    ];
+fn lists_default_in_the_old_form(rt: HostRuntime) -> Result<(), Fail> {
+    let ran = pipe_bytes(rt.alloc(), OLD_CALL)?;
+    assert!(rt; left(&ran, 0, REPLY, b""));
+    Ok(())
+}
+
+#[test]
+fn no_input_gives_no_reply(rt: HostRuntime) -> Result<(), Fail> {
+    let ran = pipe_bytes(rt.alloc(), b"")?;
+    assert!(rt; left(&ran, 0, b"", b""));
+    Ok(())
+}
+
+#[test]
+fn an_unknown_method_is_answered(rt: HostRuntime) -> Result<(), Fail> {
+    let cases: [(&[u8], &[u8]); 2] = [(UNKNOWN, UNKNOWN_REPLY), (NESTED, NESTED_REPLY)];
     for (input, output) in cases {
         let ran = pipe_bytes(rt.alloc(), input)?;
         assert!(rt; left(&ran, 0, output, b""));
@@ -133,7 +141,14 @@ fn messages_in_every_form_are_answered(rt: HostRuntime) -> Result<(), Fail> {
 }
 
 #[test]
-fn breaks_of_the_first_message_are_told(rt: HostRuntime) -> Result<(), Fail> {
+fn a_one_way_message_has_no_reply(rt: HostRuntime) -> Result<(), Fail> {
+    let ran = pipe_bytes(rt.alloc(), ONE_WAY)?;
+    assert!(rt; left(&ran, 0, b"", b""));
+    Ok(())
+}
+
+#[test]
+fn bad_heads_of_messages(rt: HostRuntime) -> Result<(), Fail> {
     let cases: [(&[u8], &str); 3] = [
         (b"\x80\x02\x00\x01", "wire: bad 1 at 0\n"),
         (
@@ -159,15 +174,39 @@ fn pipe_behind(alloc: Global, rest: &[u8]) -> Result<Ran, Fail> {
     pipe_bytes(alloc, &input)
 }
 
+// Whether what follows the first message was told so, and the first message answered.
+fn is_told(alloc: Global, rest: &[u8], line: &str) -> Result<bool, Fail> {
+    let ran = pipe_behind(alloc, rest)?;
+    Ok(left(&ran, 7, REPLY, line.as_bytes()))
+}
+
 #[test]
-fn messages_before_a_break_are_answered(rt: HostRuntime) -> Result<(), Fail> {
-    let cases: [(&[u8], &str); 10] = [
+fn a_message_cut_short_is_truncated(rt: HostRuntime) -> Result<(), Fail> {
+    let cases: [(&[u8], &str); 4] = [
         (b"\x80", "wire: truncated at 31\n"),
-        (b"\x80\x02\x00\x01", "wire: bad 1 at 30\n"),
         (
             b"\x80\x01\x00\x01\x00\x00\x00\x11get_all_databases\x00\x00\x00\x01",
             "wire: truncated at 59\n",
         ),
+        (
+            b"\x80\x01\x00\x01\x01\x00\x00\x00",
+            "wire: truncated at 38\n",
+        ),
+        (
+            b"\x80\x01\x00\x01\x00\x00\x00\x01x\x00\x00\x00\x05\x0b\x00\x01",
+            "wire: truncated at 46\n",
+        ),
+    ];
+    for (rest, line) in cases {
+        assert!(rt; is_told(rt.alloc(), rest, line)?, "{line}");
+    }
+    Ok(())
+}
+
+#[test]
+fn messages_before_a_break_are_answered(rt: HostRuntime) -> Result<(), Fail> {
+    let cases: [(&[u8], &str); 6] = [
+        (b"\x80\x02\x00\x01", "wire: bad 1 at 30\n"),
         (b"\x80\x01\x00\x02", "wire: bad 2 at 33\n"),
         (b"\x80\x01\x00\x01\xff\xff\xff\xff", "wire: bad 3 at 34\n"),
         (
@@ -175,16 +214,8 @@ fn messages_before_a_break_are_answered(rt: HostRuntime) -> Result<(), Fail> {
             "wire: too large at 34\n",
         ),
         (
-            b"\x80\x01\x00\x01\x01\x00\x00\x00",
-            "wire: truncated at 38\n",
-        ),
-        (
             b"\x80\x01\x00\x01\x00\x00\x00\x01\xff\x00\x00\x00\x05\x00",
             "wire: bad 5 at 38\n",
-        ),
-        (
-            b"\x80\x01\x00\x01\x00\x00\x00\x01x\x00\x00\x00\x05\x0b\x00\x01",
-            "wire: truncated at 46\n",
         ),
         (
             b"\x80\x01\x00\x01\x00\x00\x00\x01x\x00\x00\x00\x05\x01",
@@ -192,8 +223,7 @@ fn messages_before_a_break_are_answered(rt: HostRuntime) -> Result<(), Fail> {
         ),
     ];
     for (rest, line) in cases {
-        let ran = pipe_behind(rt.alloc(), rest)?;
-        assert!(rt; left(&ran, 7, REPLY, line.as_bytes()), "{line}");
+        assert!(rt; is_told(rt.alloc(), rest, line)?, "{line}");
     }
     Ok(())
 }

@@ -12,4 +12,4 @@ returns-in_err-slots-clause-reads g c =
     rw (p.1, p.2) (struct_fault _ _ _ _ c.in_err-slots.field-0.0 c.in_err-slots.ensures.reads)
 
 pub returns-clause-reads : goal.returns-clause-reads
-returns-clause-reads g c = Took-weaker _ _ _ _ _ _ (λ bytes h. (Struct h.0, h.1, c.said_or_bad.ensures ∙ ap said_or_bad (c.finish.ensures ∙ ap g.F.FieldSink.whole h.2))) c.in_ok-slots.ensures.reads
+returns-clause-reads g c = Took-weaker _ _ _ _ _ _ (λ bytes h. (Struct h.0, h.1, c.said_or_bad.ensures ∙ ap said_or_bad (c.finish.ensures ∙ ap g.F.StructSink.whole h.2))) c.in_ok-slots.ensures.reads

@@ -17,6 +17,6 @@ loop-left-preserved g c =
       same_source = search rules;
       later = omega (arith, c.in_ok-exact.ensures.later, c.loop-left.invariant.later);
       within = omega (arith, c.loop-left.invariant.within);
-      size = omega (arith, c.loop-left.invariant.size, got, length-append c.exact.new.buf (drop c.min-part.result c.loop-left.buf), length-drop c.min-part.result c.loop-left.buf);
-      so_far = pass_more c.args.n c.loop-left.left c.min-part.result c.exact.new.buf _ _ _ _ _ _ (omega arith) (omega (arith, got)) c.loop-left.invariant.so_far c.in_ok-exact.ensures.reads;
+      size = omega (arith, c.loop-left.invariant.size, got, length-append c.exact-in-loop-left.new.buf (drop c.min-part.result c.loop-left.buf), length-drop c.min-part.result c.loop-left.buf);
+      so_far = pass_more c.args.n c.loop-left.left c.min-part.result c.exact-in-loop-left.new.buf _ _ _ _ _ _ (omega arith) (omega (arith, got)) c.loop-left.invariant.so_far c.in_ok-exact.ensures.reads;
     }
