@@ -1,0 +1,14 @@
+//! Laws of the top call, each the contract of a function that does nothing.
+
+ghost use Rattle.ms_cli.specs.Laws.{WholeTextsArePiped};
+
+use ms_session::whole_texts_are_served;
+
+/// `pipe` over an input that is known answers each whole message of it, up to one that asks for the end
+/// of the session, and its status tells how the input ends, unless something outside fails or memory
+/// is refused.
+pub fn whole_texts_are_piped()
+    ensures { WholeTextsArePiped }
+{
+    whole_texts_are_served();
+}
