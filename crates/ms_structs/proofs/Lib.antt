@@ -9,3 +9,4 @@ pub mod Said
 pub mod DatabaseSaid
 pub mod PiecesWritten
 pub mod RoundTrip
+pub mod LastPairs

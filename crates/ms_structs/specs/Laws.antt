@@ -1,14 +1,14 @@
 -- What a struct says, in plainer words than the fold over its fields.
-use Rattle.std.specs.Prelude.{◌≡◌, ℕ, ℤ, pos, List, [], ◌∷◌, Option, None, Some, ⊤}
+use Rattle.std.specs.Prelude.{◌≡◌, ℕ, ℤ, pos, List, [], ◌∷◌, Option, None, Some, ⊤, if◌then◌else◌}
 use Rattle.std.specs.Cmp.Lexicographic.{slice_cmp}
 use Rattle.std.specs.List.Sorted.{IsStrictlySortedBy}
-use Rattle.std.specs.Map.{keys_of}
+use Rattle.std.specs.Map.{keys_of, lookup}
 use Rattle.std.specs.Ordering.{nat_cmp}
-use Rattle.std.specs.Str.{IsUtf8}
+use Rattle.std.specs.Str.{IsUtf8, bytes_eq}
 use Rattle.cat_values.specs.declared.records.DbRec.{DbRec}
 use Rattle.ms_structs.specs.declared.got.Got.TheVariants.{Is}
 use Rattle.ms_structs.specs.Written.{database_fields}
-use Rattle.thrift_binary.specs.Tree.{Fields, Struct}
+use Rattle.thrift_binary.specs.Tree.{Wire, Bytes, Entries, NoEntries, Entry, Fields, Pairs, Struct}
 use Rattle.ms_structs.specs.Slots.{only, said}
 use Rattle.ms_structs.specs.Values.{params_of, text_of}
 use Rattle.ms_structs.specs.Database.{database_made, database_of, database_whole}
@@ -48,3 +48,23 @@ pub record IsKept (rec : DbRec) : Type 0 where
 -- a database that is written reads back as it was
 abbrev pub WrittenIsRead : Type 0
 WrittenIsRead = (name : List ℕ) (rec : DbRec) → IsUtf8 name → IsKept rec → database_of (Struct (database_fields name rec)) ≡ Is (record { name = Some name; rec = rec })
+
+-- a text on the wire, in UTF-8
+abbrev pub IsText : Wire → Type 0
+IsText (Bytes text) = IsUtf8 text
+IsText w = ⊥
+
+-- pairs of texts on the wire, in UTF-8
+abbrev pub AreTexts : Entries → Type 0
+AreTexts NoEntries = ⊤
+AreTexts (Entry key value ps) = IsText key × IsText value × AreTexts ps
+
+-- the text of the last pair with this key, or else this one
+abbrev pub last_text : List ℕ → Option (List ℕ) → Entries → Option (List ℕ)
+last_text key before NoEntries = before
+last_text key before (Entry (Bytes k) (Bytes text) ps) = last_text key (if bytes_eq key k then Some text else before) ps
+last_text key before (Entry k w ps) = last_text key before ps
+
+-- of the pairs of a map from texts to texts the last one with a key counts
+abbrev pub LastPairCounts : Type 0
+LastPairCounts = (ps : Entries) (params : List (List ℕ × List ℕ)) (key : List ℕ) → AreTexts ps → params_of (Pairs 11 11 ps) ≡ Is params → lookup (bytes_eq key) params ≡ last_text key None ps

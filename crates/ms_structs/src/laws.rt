@@ -1,6 +1,6 @@
 //! What structs say, proved over all of them.
 
-ghost use Rattle.ms_structs.specs.Laws.{DatabaseIsSaid, OrderIsFree, WrittenIsRead};
+ghost use Rattle.ms_structs.specs.Laws.{DatabaseIsSaid, LastPairCounts, OrderIsFree, WrittenIsRead};
 
 /// A database is made of what the last field with each known id says, of those that say something:
 /// fields with unknown ids, or of another type, count for nothing.
@@ -11,6 +11,11 @@ pub fn database_is_said()
 /// The order of fields with different ids doesn't count.
 pub fn order_is_free()
     ensures { OrderIsFree }
+{}
+
+/// Of the pairs of a map from texts to texts the last one with a key counts.
+pub fn last_pair_counts()
+    ensures { LastPairCounts }
 {}
 
 /// A database that is written reads back as it was.
