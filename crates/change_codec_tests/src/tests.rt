@@ -5,7 +5,9 @@ use crate::samples::{
     BAD_ENTRIES, BAD_EVENTS, BAD_ITEMS, BAD_LISTS, CREATION, ENTRIES, EVENT_PLACES, ITEM_PLACES,
     all_operations, events, items,
 };
-use cat_types::{Bytes, Change, DbRec, Event, EventKind, ListOf, MapOf, NoMemory, Op, Ops, Text};
+use cat_types::{
+    Bytes, Change, DbRec, Event, EventKind, Item, ListOf, MapOf, NoMemory, Op, Ops, Text,
+};
 use change_codec::{
     CodecFault, each_has_one_spelling, each_is_read_again, each_is_spelled_as_read, get_entry,
     get_event, get_events, get_items, next_event, next_item, put_entry, put_event, put_events,
@@ -221,21 +223,35 @@ fn faults_are_told_where_they_are(rt: HostRuntime) -> Result<(), Fail> {
     Ok(())
 }
 
+// The bytes between two offsets.
+fn part(bytes: &[u8], at: u64, end: u64) -> Option<&[u8]> {
+    bytes.get(at as usize..end as usize)
+}
+
+// Whether an item is written so.
+fn is_written(alloc: Global, item: &Item, spelled: &[u8]) -> bool {
+    let mut out = Bytes::new(alloc);
+    match put_item(item, &mut out) {
+        Ok(()) => out.as_slice() == spelled,
+        Err(_) => false,
+    }
+}
+
+// The end of an item that was read from an offset on, where it is written so.
+fn end_of(alloc: Global, read: &(Item, u64), bytes: &[u8], at: u64) -> Option<u64> {
+    let (item, end) = read;
+    let spelled = part(bytes, at, *end)?;
+    is_written(alloc, item, spelled).then_some(*end)
+}
+
 // The offset behind the item that begins at an offset, where it is written again as it was read.
 fn behind_item(alloc: Global, bytes: &[u8], at: u64) -> Option<u64> {
     if at > bytes.len() as u64 {
         return None;
     }
-    let Ok((item, end)) = next_item(alloc, bytes, at) else {
-        return None;
-    };
-    let mut out = Bytes::new(alloc);
-    let put = put_item(&item, &mut out);
-    let spelled = bytes.get(at as usize..end as usize);
-    if put.is_ok() && spelled == Some(out.as_slice()) {
-        Some(end)
-    } else {
-        None
+    match next_item(alloc, bytes, at) {
+        Ok(read) => end_of(alloc, &read, bytes, at),
+        Err(_) => None,
     }
 }
 
