@@ -15,3 +15,6 @@ pub mod OneTree
 pub mod OneMessage
 pub mod OneText
 pub mod Stopping
+pub mod Beginnings
+pub mod BegunValues
+pub mod BegunMessages

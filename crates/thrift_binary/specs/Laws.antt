@@ -1,5 +1,5 @@
 -- Laws of the wire. Each holds of messages that ask, and of those that answer.
-use Rattle.std.specs.Prelude.{◌≡◌, ℕ, ◌+◌, List, [], ◌++◌, length}
+use Rattle.std.specs.Prelude.{◌≡◌, ℕ, ◌+◌, ◌<◌, List, [], ◌++◌, length, get_or}
 use Rattle.thrift_binary.specs.Tree.{Wire}
 use Rattle.thrift_binary.specs.Wire.{IsWire}
 use Rattle.thrift_binary.specs.Messages.{Asks, Replies, Message, IsMessage, Ending, Boundary, Truncated, Bad_at, Large_at, SpellsFrom}
@@ -41,3 +41,11 @@ IsFinal (Large_at at) = Unit {0}
 -- whatever comes behind it
 abbrev pub StaysSo : (ℕ → Type 0) → Type 0
 StaysSo Kinds = (start : ℕ) (text more : List ℕ) (ms : List Message) (end : Ending) → IsFinal end → SpellsFrom Kinds start text ms end → SpellsFrom Kinds start (text ++ more) ms end
+
+-- each is a byte
+abbrev pub AreBytes : List ℕ → Type 0
+AreBytes bytes = (i : ℕ) → get_or bytes i 0 < 256
+
+-- from any place on, every text of bytes spells some messages, and ends in some way
+abbrev pub HasAnEnding : (ℕ → Type 0) → Type 0
+HasAnEnding Kinds = (start : ℕ) (text : List ℕ) → AreBytes text → (ms : List Message) × (end : Ending) × SpellsFrom Kinds start text ms end

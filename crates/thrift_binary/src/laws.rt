@@ -9,6 +9,7 @@ ghost use Rattle.thrift_binary.specs.Laws.{
   GoesOn,
   IsCutAnywhere,
   StaysSo,
+  HasAnEnding,
 };
 
 /// No spelling of a value begins another of its type, and no message begins another; none spells two.
@@ -29,4 +30,9 @@ pub fn cutting_changes_nothing()
     ensures goes_on { OfBothKinds GoesOn }
     ensures cut { OfBothKinds IsCutAnywhere }
     ensures stays { OfBothKinds StaysSo }
+{}
+
+/// Every text of bytes, from whatever place it is read, spells some messages and has an ending.
+pub fn every_text_has_an_ending()
+    ensures { OfBothKinds HasAnEnding }
 {}

@@ -19,7 +19,10 @@ mod writer;
 
 pub use fault::{SendFault, WireFault};
 pub use head::Head;
-pub use laws::{a_text_reads_one_way, cutting_changes_nothing, no_spelling_begins_another};
+pub use laws::{
+    a_text_reads_one_way, cutting_changes_nothing, every_text_has_an_ending,
+    no_spelling_begins_another,
+};
 pub use limits::{COUNT_LIMIT, DEPTH_LIMIT, MESSAGE_LIMIT, SESSION_END, messages_are_bounded};
 pub use progress::Progress;
 pub use reader::WireReader;
