@@ -16,3 +16,5 @@ pub mod Terms
 pub mod Tests
 pub mod Trees
 pub mod Walking
+pub mod Taking
+pub mod Descending

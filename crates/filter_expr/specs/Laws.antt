@@ -28,3 +28,7 @@ NoFilterGoesOn = (fault : FilterFault) (xs : List (ℕ × Token)) → StopsFilte
     (front : List (ℕ × Token)) × (token : ℕ × Token) × (rest : List (ℕ × Token)) × (xs ≡ front ++ token ∷ rest)
     × ((fault ≡ Syntax token.0) ⊎ (fault ≡ TooDeep))
     × ((tree : Option (Any Written)) (others : List (ℕ × Token)) → IsFilter tree (front ++ token ∷ others) → ⊥)
+
+-- a text has a tree, or it is refused for another reason than want of memory
+abbrev pub TextsAreReadOrRefused : Type 0
+TextsAreReadOrRefused = (text : List ℕ) (keys : List Column) → ((tree : Option (Any Comparison)) × Reads text keys tree) ⊎ ((fault : FilterFault) × (fault ≢ NoMemory) × IsFault text keys fault)

@@ -1,6 +1,6 @@
 //! Laws of filters, each the contract of a function that does nothing.
 
-ghost use Rattle.filter_expr.specs.Laws.{NoFilterGoesOn, ReadTextsNotRefused, TextsReadOneWay, TextsRefusedOneWay};
+ghost use Rattle.filter_expr.specs.Laws.{NoFilterGoesOn, ReadTextsNotRefused, TextsAreReadOrRefused, TextsReadOneWay, TextsRefusedOneWay};
 
 /// A text has at most one tree.
 pub fn texts_read_one_way()
@@ -22,4 +22,9 @@ pub fn read_texts_not_refused()
 /// at it, whatever stands behind them.
 pub fn no_filter_goes_on()
     ensures { NoFilterGoesOn }
+{}
+
+/// Every text has a tree, or is refused for another reason than want of memory, whatever the keys.
+pub fn texts_are_read_or_refused()
+    ensures { TextsAreReadOrRefused }
 {}

@@ -29,5 +29,6 @@ mod words;
 pub use expr::{Expr, holds, parse};
 pub use fault::FilterFault;
 pub use laws::{
-    no_filter_goes_on, read_texts_not_refused, texts_read_one_way, texts_refused_one_way,
+    no_filter_goes_on, read_texts_not_refused, texts_are_read_or_refused, texts_read_one_way,
+    texts_refused_one_way,
 };
