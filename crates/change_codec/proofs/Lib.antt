@@ -8,3 +8,5 @@ pub mod Composed
 pub mod Tagged
 pub mod Lawful
 pub mod Wholes
+pub mod Places
+pub mod Steady

@@ -1,5 +1,5 @@
 -- What calls answer, and the laws of forms.
-use Rattle.std.specs.Prelude.{◌≡◌, ℕ, ◌-◌, ◌<◌, get_or, List, [], ◌∷◌, ◌++◌, length, drop, Result, Ok, Err, IfOk}
+use Rattle.std.specs.Prelude.{◌≡◌, ◌≢◌, ℕ, ◌-◌, ◌<◌, get_or, List, [], ◌∷◌, ◌++◌, length, drop, Result, Ok, Err, IfOk}
 use Rattle.change_codec.specs.declared.fault.CodecFault.{CodecFault}
 use Rattle.change_codec.specs.declared.fault.CodecFault.TheVariants as fault
 use Rattle.change_codec.specs.declared.fault.Stop.{Stop}
@@ -70,3 +70,22 @@ IsSpelled {T} form = (bytes : List ℕ) (value : T) (rest : List ℕ) → AreByt
 -- no spelling begins another: two values whose spellings stand at the front of the same bytes are one
 abbrev pub HasOneSpelling : {T : Type 0} → Form T → Type 0
 HasOneSpelling {T} form = (a b : T) (x y : List ℕ) → form.Fits a → form.Fits b → form.code a ++ x ≡ form.code b ++ y → (a ≡ b) × (x ≡ y)
+
+-- The place at which reading stops, with so many bytes left behind it.
+pub record Refuses {T : Type 0} (form : Form T) (bytes : List ℕ) (left : ℕ) : Type 0 where
+  pub before : List ℕ
+  pub behind : List ℕ
+  pub parts : bytes ≡ before ++ behind
+  pub place : left ≡ length behind
+  -- the bytes before it, by themselves, only end too soon
+  pub early : form.read before ≡ Err 0
+  -- no spelling stands at the front of the bytes
+  pub none : (value : T) (rest : List ℕ) → form.Fits value → bytes ≡ form.code value ++ rest → ⊥
+  -- where bytes are left, none begins with the bytes either
+  pub final : behind ≢ [] → (value : T) (more : List ℕ) → form.Fits value → form.code value ≡ bytes ++ more → ⊥
+  -- and whatever follows them, reading stops at this place
+  pub stays : behind ≢ [] → (more : List ℕ) → form.read (bytes ++ more) ≡ Err (length (behind ++ more))
+
+-- so of all bytes that are refused
+abbrev pub IsRefusedInPlace : {T : Type 0} → Form T → Type 0
+IsRefusedInPlace {T} form = (bytes : List ℕ) (left : ℕ) → form.read bytes ≡ Err left → Refuses form bytes left

@@ -2,7 +2,7 @@
 
 ghost use Rattle.change_codec.specs.Records.{an_entry, an_item, event};
 ghost use Rattle.change_codec.specs.Forms.{list_of};
-ghost use Rattle.change_codec.specs.Whole.{HasOneSpelling, IsReadAgain, IsSpelled};
+ghost use Rattle.change_codec.specs.Whole.{HasOneSpelling, IsReadAgain, IsRefusedInPlace, IsSpelled};
 
 /// What was written is read again, whatever follows it.
 pub fn each_is_read_again()
@@ -30,4 +30,15 @@ pub fn each_has_one_spelling()
     ensures item { HasOneSpelling an_item }
     ensures items { HasOneSpelling (list_of an_item) }
     ensures entry { HasOneSpelling an_entry }
+{}
+
+/// Where reading stops. The bytes before the place, by themselves, only end too soon. Where bytes are
+/// left behind it, no spelling begins with them all, and reading stops at this place whatever
+/// follows them.
+pub fn each_is_refused_in_place()
+    ensures event { IsRefusedInPlace event }
+    ensures events { IsRefusedInPlace (list_of event) }
+    ensures item { IsRefusedInPlace an_item }
+    ensures items { IsRefusedInPlace (list_of an_item) }
+    ensures entry { IsRefusedInPlace an_entry }
 {}
