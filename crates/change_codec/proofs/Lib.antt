@@ -10,3 +10,4 @@ pub mod Lawful
 pub mod Wholes
 pub mod Places
 pub mod Steady
+pub mod Onward

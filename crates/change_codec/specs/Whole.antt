@@ -1,5 +1,5 @@
 -- What calls answer, and the laws of forms.
-use Rattle.std.specs.Prelude.{◌≡◌, ◌≢◌, ℕ, ◌-◌, ◌<◌, get_or, List, [], ◌∷◌, ◌++◌, length, drop, Result, Ok, Err, IfOk}
+use Rattle.std.specs.Prelude.{◌≡◌, ◌≢◌, ℕ, ◌-◌, ◌<◌, ◌≤◌, get_or, List, [], ◌∷◌, ◌++◌, length, drop, Result, Ok, Err, IfOk}
 use Rattle.change_codec.specs.declared.fault.CodecFault.{CodecFault}
 use Rattle.change_codec.specs.declared.fault.CodecFault.TheVariants as fault
 use Rattle.change_codec.specs.declared.fault.Stop.{Stop}
@@ -54,6 +54,12 @@ at_by count (Err left) = Err (count - left)
 
 abbrev pub read_at : {T : Type 0} → (List ℕ → Reading T) → ℕ → List ℕ → Result (T × ℕ) ℕ
 read_at read at bytes = at_by (length bytes) (read (drop at bytes))
+
+-- among so many bytes, the offset behind what was read is behind this one, and that of a refusal is not before it
+abbrev pub GoesForward : {T : Type 0} → ℕ → ℕ → Result (T × ℕ) CodecFault → Type 0
+GoesForward at count (Ok (value, behind)) = (at < behind) × (behind ≤ count)
+GoesForward at count (Err fault.NoMemory) = Unit {0}
+GoesForward at count (Err (fault.BadRecord offset)) = (at ≤ offset) × (offset ≤ count)
 
 -- what was written is read again, whatever follows it
 abbrev pub IsReadAgain : {T : Type 0} → Form T → Type 0

@@ -6,7 +6,7 @@ ghost use Rattle.cat_types.specs.declared.changes.Event.{Event};
 ghost use Rattle.cat_types.specs.declared.items.Item.{Item};
 ghost use Rattle.change_codec.specs.Forms.{count_read, list_of};
 ghost use Rattle.change_codec.specs.Records.{an_entry, an_item, event};
-ghost use Rattle.change_codec.specs.Whole.{Answers, AnswersWhole, at_by, fault_by, read_at, whole_by};
+ghost use Rattle.change_codec.specs.Whole.{Answers, AnswersWhole, GoesForward, at_by, fault_by, read_at, whole_by};
 ghost use Rattle.change_codec.specs.Written.{Gathers};
 
 use crate::fault::Stop;
@@ -134,7 +134,8 @@ fn get_at<T: Get>(alloc: Global, bytes: &[u8], at: u64) -> Result<(T, u64), Code
 /// The item that is spelled from an offset on, and the offset behind it.
 pub fn next_item(alloc: Global, bytes: &[u8], at: u64) -> Result<(Item, u64), CodecFault>
     requires { at ≤ length bytes.now }
-    ensures { Answers result (read_at an_item.read at bytes.now) }
+    ensures exact { Answers result (read_at an_item.read at bytes.now) }
+    ensures forward { GoesForward at (length bytes.now) result }
 {
     get_at(alloc, bytes, at)
 }
@@ -142,7 +143,8 @@ pub fn next_item(alloc: Global, bytes: &[u8], at: u64) -> Result<(Item, u64), Co
 /// The event that is spelled from an offset on, and the offset behind it.
 pub fn next_event(alloc: Global, bytes: &[u8], at: u64) -> Result<(Event, u64), CodecFault>
     requires { at ≤ length bytes.now }
-    ensures { Answers result (read_at event.read at bytes.now) }
+    ensures exact { Answers result (read_at event.read at bytes.now) }
+    ensures forward { GoesForward at (length bytes.now) result }
 {
     get_at(alloc, bytes, at)
 }
