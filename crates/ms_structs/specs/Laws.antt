@@ -1,12 +1,12 @@
 -- What a struct says, in plainer words than the fold over its fields.
-use Rattle.std.specs.Prelude.{◌≡◌, ℕ, ℤ, pos, List, [], ◌∷◌, Option, None, Some, ⊤, if◌then◌else◌}
+use Rattle.std.specs.Prelude.{◌≡◌, ◌↔◌, ◌⊎◌, ℕ, ℤ, pos, List, [], ◌∷◌, Option, None, Some, ⊤, if◌then◌else◌}
 use Rattle.std.specs.Cmp.Lexicographic.{slice_cmp}
 use Rattle.std.specs.List.Sorted.{IsStrictlySortedBy}
 use Rattle.std.specs.Map.{keys_of, lookup}
 use Rattle.std.specs.Ordering.{nat_cmp}
 use Rattle.std.specs.Str.{IsUtf8, bytes_eq}
 use Rattle.cat_values.specs.declared.records.DbRec.{DbRec}
-use Rattle.ms_structs.specs.declared.got.Got.TheVariants.{Is}
+use Rattle.ms_structs.specs.declared.got.Got.TheVariants.{BadText, Is}
 use Rattle.ms_structs.specs.Written.{database_fields}
 use Rattle.thrift_binary.specs.Tree.{Wire, Bytes, Entries, NoEntries, Entry, Fields, Pairs, Struct}
 use Rattle.ms_structs.specs.Slots.{only, said}
@@ -49,15 +49,15 @@ pub record IsKept (rec : DbRec) : Type 0 where
 abbrev pub WrittenIsRead : Type 0
 WrittenIsRead = (name : List ℕ) (rec : DbRec) → IsUtf8 name → IsKept rec → database_of (Struct (database_fields name rec)) ≡ Is (record { name = Some name; rec = rec })
 
--- a text on the wire, in UTF-8
-abbrev pub IsText : Wire → Type 0
-IsText (Bytes text) = IsUtf8 text
-IsText w = ⊥
+-- a text on the wire, in UTF-8 or not
+abbrev pub IsTextBytes : Wire → Type 0
+IsTextBytes (Bytes text) = ⊤
+IsTextBytes w = ⊥
 
--- pairs of texts on the wire, in UTF-8
-abbrev pub AreTexts : Entries → Type 0
-AreTexts NoEntries = ⊤
-AreTexts (Entry key value ps) = IsText key × IsText value × AreTexts ps
+-- pairs of texts on the wire
+abbrev pub AreTextBytes : Entries → Type 0
+AreTextBytes NoEntries = ⊤
+AreTextBytes (Entry key value ps) = IsTextBytes key × IsTextBytes value × AreTextBytes ps
 
 -- the text of the last pair with this key, or else this one
 abbrev pub last_text : List ℕ → Option (List ℕ) → Entries → Option (List ℕ)
@@ -67,4 +67,18 @@ last_text key before (Entry k w ps) = last_text key before ps
 
 -- of the pairs of a map from texts to texts the last one with a key counts
 abbrev pub LastPairCounts : Type 0
-LastPairCounts = (ps : Entries) (params : List (List ℕ × List ℕ)) (key : List ℕ) → AreTexts ps → params_of (Pairs 11 11 ps) ≡ Is params → lookup (bytes_eq key) params ≡ last_text key None ps
+LastPairCounts = (ps : Entries) (params : List (List ℕ × List ℕ)) (key : List ℕ) → AreTextBytes ps → params_of (Pairs 11 11 ps) ≡ Is params → lookup (bytes_eq key) params ≡ last_text key None ps
+
+-- some key isn't UTF-8
+abbrev pub HasBadKey : Entries → Type 0
+HasBadKey NoEntries = ⊥
+HasBadKey (Entry (Bytes key) w ps) = (IsUtf8 key → ⊥) ⊎ HasBadKey ps
+HasBadKey (Entry k w ps) = HasBadKey ps
+
+-- the last value of some key isn't UTF-8
+abbrev pub HasBadValue : Entries → Type 0
+HasBadValue ps = (key text : List ℕ) × (last_text key None ps ≡ Some text) × (IsUtf8 text → ⊥)
+
+-- a map from texts to texts is a bad text exactly where some key isn't UTF-8, or the last value of some key isn't
+abbrev pub BadMapsAreTold : Type 0
+BadMapsAreTold = (ps : Entries) → AreTextBytes ps → (params_of (Pairs 11 11 ps) ≡ BadText) ↔ (HasBadKey ps ⊎ HasBadValue ps)

@@ -1,6 +1,6 @@
 //! What structs say, proved over all of them.
 
-ghost use Rattle.ms_structs.specs.Laws.{DatabaseIsSaid, LastPairCounts, OrderIsFree, WrittenIsRead};
+ghost use Rattle.ms_structs.specs.Laws.{BadMapsAreTold, DatabaseIsSaid, LastPairCounts, OrderIsFree, WrittenIsRead};
 
 /// A database is made of what the last field with each known id says, of those that say something:
 /// fields with unknown ids, or of another type, count for nothing.
@@ -16,6 +16,12 @@ pub fn order_is_free()
 /// Of the pairs of a map from texts to texts the last one with a key counts.
 pub fn last_pair_counts()
     ensures { LastPairCounts }
+{}
+
+/// A map from texts to texts is a bad text exactly where some key isn't UTF-8, or the last value of
+/// some key isn't.
+pub fn bad_maps_are_told()
+    ensures { BadMapsAreTold }
 {}
 
 /// A database that is written reads back as it was.

@@ -17,7 +17,9 @@ pub use database::{DatabaseFields, read_database, write_database};
 pub use from_wire::{FromWire, read_typed, skip_field};
 pub use functions::write_get_all_functions_response;
 pub use got::{Got, said_or_bad};
-pub use laws::{database_is_said, last_pair_counts, order_is_free, written_is_read};
+pub use laws::{
+    bad_maps_are_told, database_is_said, last_pair_counts, order_is_free, written_is_read,
+};
 pub use pairs::PairsSoFar;
 pub use struct_fault::StructFault;
 pub use structs::{FieldSink, StructSink, read_slots, read_struct, read_whole};
