@@ -1,12 +1,13 @@
 -- Where each record stops to be read.
-use Rattle.std.proofs.Common.{◌≡◌, ℕ, List, [], ◌++◌, length, Err, refl, sym, ap, ◌∙◌, append-nil}
+use Rattle.std.proofs.Common.{◌≡◌, ℕ, List, [], ◌++◌, length, Err, refl, sym, ap, ◌∙◌, append-nil, ◌≢◌, ◌∷◌, Ok, append_assoc}
 use Rattle.std.specs.Cmp.Lexicographic.{slice_cmp}
 use Rattle.std.specs.Int.{w32, w64}
 use Rattle.std.specs.Ordering.{nat_cmp}
-use Rattle.change_codec.specs.Forms.{Form, list_of, made_read, number, number_read, optional, tagged_read, text, three_read}
+use Rattle.change_codec.specs.Forms.{Form, Reading, list_of, made_read, number, number_read, optional, tagged_read, text, three_read}
 use Rattle.change_codec.specs.Records.{a_phase, an_entry, an_item, change, column, db_item, db_rec, drop_part, drop_table, entry_tags, event, event_kind, item_tags, kind_tags, load_step, marked, move_part, move_table, op_tags, operation, order, params, part_item, part_rec, phase_tags, places, put_part, put_table, replica_row, serde, skew, stat_flags, stat_long, stat_rec, stat_str, stat_tags, stat_value, stats, storage, table_item, table_rec, texts, two_numbers}
-use Rattle.change_codec.specs.Whole.{IsReadAgain, IsRefusedInPlace}
-use Rattle.change_codec.proofs.Places.{IsSteady, given-steady, never, front-steady, number-steady, signed-steady, text-steady, text_none, made-steady, then-steady, three-steady, four-steady, list-steady, list_none, map-steady, tagged-steady, flag-steady, option-steady}
+use Rattle.change_codec.specs.Whole.{IsCutAtItsEnd, IsReadAgain, IsRefusedInPlace}
+use Rattle.change_codec.proofs.Bind.{ok_is}
+use Rattle.change_codec.proofs.Places.{IsSteady, Place, given-steady, never, front-steady, number-steady, signed-steady, text-steady, text_none, made-steady, then-steady, three-steady, four-steady, list-steady, list_none, map-steady, tagged-steady, flag-steady, option-steady}
 
 abbrev Steady : {T : Type 0} → Form T → Type 0
 Steady form = IsSteady form.read
@@ -158,6 +159,13 @@ item_none = refl
 
 -- ---- what that says of spellings
 
+not_nil : (x : ℕ) (xs : List ℕ) → x ∷ xs ≡ [] → ⊥
+not_nil x xs e = cc
+
+none_behind : (xs ys : List ℕ) → [] ≡ xs ++ ys → ys ≡ []
+none_behind [] ys e = sym e
+none_behind (x ∷ xs) ys e = absurd (not_nil x (xs ++ ys) (sym e))
+
 module _ {T : Type 0} (form : Form T) (p : IsSteady form.read) (again : IsReadAgain form) where
   none_read : (bytes : List ℕ) (left : ℕ) → form.read bytes ≡ Err left → (value : T) (rest : List ℕ) → form.Fits value → bytes ≡ form.code value ++ rest → ⊥
   none_read bytes left e value rest f is = never (form.read bytes) (value, rest) left (ap form.read is ∙ again value rest f) e
@@ -175,3 +183,24 @@ module _ {T : Type 0} (form : Form T) (p : IsSteady form.read) (again : IsReadAg
         final = λ some value more f is. none_read (bytes ++ more) (length (s.behind ++ more)) (s.stays some more) value [] f (sym is ∙ sym (append-nil (form.code value)));
         stays = s.stays;
       }
+
+  -- a value that is read off a front takes no more of the whole
+  cut_value : (value : T) (front more : List ℕ) → form.Fits value → form.code value ≡ front ++ more → more ≢ [] → (v : T) (rest : List ℕ) → form.read front ≡ Ok (v, rest) → ⊥
+  cut_value value front more f is some v rest e =
+      let t = p.took front v rest e in
+      let split : form.code value ++ [] ≡ t.front ++ (rest ++ more) = append-nil (form.code value) ∙ is ∙ ap (λ (l : List ℕ). l ++ more) t.parts ∙ append_assoc t.front rest more in
+      let same : (value, []) ≡ (v, rest ++ more) = ok_is (value, []) (v, rest ++ more) (sym (again value [] f) ∙ ap form.read split ∙ t.again (rest ++ more)) in
+      some (none_behind rest more (ap (λ (r : T × List ℕ). r.1) same))
+
+  cut_stop : (value : T) (front more : List ℕ) → form.Fits value → form.code value ≡ front ++ more → (left : ℕ) → form.read front ≡ Err left → (s : Place form.read front left) (behind : List ℕ) → s.behind ≡ behind → form.read front ≡ Err 0
+  cut_stop value front more f is left e s [] none = e ∙ ap (λ (n : ℕ). Err n) (s.place ∙ ap (λ (l : List ℕ). length l) none)
+  cut_stop value front more f is left e s (x ∷ xs) some =
+      let left_over : s.behind ≡ [] → ⊥ = λ none. not_nil x xs (sym some ∙ none) in
+      absurd (none_read (front ++ more) (length (s.behind ++ more)) (s.stays left_over more) value [] f (sym is ∙ sym (append-nil (form.code value))))
+
+  cut_by : (value : T) (front more : List ℕ) → form.Fits value → form.code value ≡ front ++ more → more ≢ [] → (r : Reading T) → form.read front ≡ r → form.read front ≡ Err 0
+  cut_by value front more f is some (Ok (v, rest)) e = absurd (cut_value value front more f is some v rest e)
+  cut_by value front more f is some (Err left) e = let s = p.stops front left e in cut_stop value front more f is left e s s.behind refl
+
+  pub cut_at_its_end : IsCutAtItsEnd form
+  cut_at_its_end value front more f is some = cut_by value front more f is some (form.read front) refl

@@ -95,3 +95,7 @@ pub record Refuses {T : Type 0} (form : Form T) (bytes : List ℕ) (left : ℕ) 
 -- so of all bytes that are refused
 abbrev pub IsRefusedInPlace : {T : Type 0} → Form T → Type 0
 IsRefusedInPlace {T} form = (bytes : List ℕ) (left : ℕ) → form.read bytes ≡ Err left → Refuses form bytes left
+
+-- a spelling that is cut before its end is refused where it ends
+abbrev pub IsCutAtItsEnd : {T : Type 0} → Form T → Type 0
+IsCutAtItsEnd {T} form = (value : T) (front more : List ℕ) → form.Fits value → form.code value ≡ front ++ more → more ≢ [] → form.read front ≡ Err 0

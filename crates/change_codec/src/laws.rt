@@ -2,7 +2,7 @@
 
 ghost use Rattle.change_codec.specs.Records.{an_entry, an_item, event};
 ghost use Rattle.change_codec.specs.Forms.{list_of};
-ghost use Rattle.change_codec.specs.Whole.{HasOneSpelling, IsReadAgain, IsRefusedInPlace, IsSpelled};
+ghost use Rattle.change_codec.specs.Whole.{HasOneSpelling, IsCutAtItsEnd, IsReadAgain, IsRefusedInPlace, IsSpelled};
 
 /// What was written is read again, whatever follows it.
 pub fn each_is_read_again()
@@ -41,4 +41,13 @@ pub fn each_is_refused_in_place()
     ensures item { IsRefusedInPlace an_item }
     ensures items { IsRefusedInPlace (list_of an_item) }
     ensures entry { IsRefusedInPlace an_entry }
+{}
+
+/// A spelling that is cut before its end is refused where it ends.
+pub fn each_is_cut_at_its_end()
+    ensures event { IsCutAtItsEnd event }
+    ensures events { IsCutAtItsEnd (list_of event) }
+    ensures item { IsCutAtItsEnd an_item }
+    ensures items { IsCutAtItsEnd (list_of an_item) }
+    ensures entry { IsCutAtItsEnd an_entry }
 {}

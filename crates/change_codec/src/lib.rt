@@ -23,5 +23,6 @@ pub use calls::{
 pub use entry::Entry;
 pub use fault::CodecFault;
 pub use laws::{
-    each_has_one_spelling, each_is_read_again, each_is_refused_in_place, each_is_spelled_as_read,
+    each_has_one_spelling, each_is_cut_at_its_end, each_is_read_again, each_is_refused_in_place,
+    each_is_spelled_as_read,
 };
