@@ -1,5 +1,0 @@
-//! Tests of texts, lists and maps.
-#![tactic(auto)]
-
-#[cfg(test)]
-mod tests;

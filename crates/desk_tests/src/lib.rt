@@ -1,5 +1,0 @@
-//! Tests of stores and desks.
-#![tactic(auto)]
-
-#[cfg(test)]
-mod tests;

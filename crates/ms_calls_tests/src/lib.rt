@@ -1,5 +1,0 @@
-//! Tests of messages and their replies.
-#![tactic(auto)]
-
-#[cfg(test)]
-mod tests;

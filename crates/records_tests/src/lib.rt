@@ -1,5 +1,0 @@
-//! Tests of the copies of records.
-#![tactic(auto)]
-
-#[cfg(test)]
-mod tests;

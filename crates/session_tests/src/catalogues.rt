@@ -1,0 +1,71 @@
+//! What no session shows of a catalogue: a live replica's position, and a change that is taken back.
+
+use crate::stores::create;
+use cat_types::{Call, ListOf, Params, Reply, Text};
+use catalogue::{Bars, Cat, Decided, Placed, ReplicaAt, decide};
+use std::alloc::Global;
+use std::test::Fail;
+
+fn no_bars(alloc: Global) -> Bars {
+    Bars {
+        replicas: ListOf::new(alloc),
+        dumping: ListOf::new(alloc),
+        loading: ListOf::new(alloc),
+    }
+}
+
+// `default` is a replica at event 9.
+fn live(alloc: Global) -> Result<Bars, Fail> {
+    let mut bars = no_bars(alloc);
+    let db = Text::of(alloc, "default")?;
+    bars.replicas.push(ReplicaAt { db, at: Some(9) })?;
+    Ok(bars)
+}
+
+// Whether there is one parameter alone, with this key and value.
+fn has_one(params: &Params, key: &str, value: &str) -> bool {
+    for (name, held) in params.iter() {
+        return params.len() == 1 && name.as_str() == key && held.as_str() == value;
+    }
+    false
+}
+
+// Whether the one parameter of the shown database is this position.
+fn is_placed(decided: &Decided, position: &str) -> bool {
+    match decided {
+        Decided::Reply(Reply::Db(_, rec)) => has_one(&rec.params, "repl.last.id", position),
+        _ => false,
+    }
+}
+
+#[test]
+fn a_live_replica_shows_its_position(rt: HostRuntime) -> Result<(), Fail> {
+    let alloc = rt.alloc();
+    let name = Text::of(alloc, "default")?;
+    let call = Call::GetDatabase { name };
+    let bars = live(alloc)?;
+    let cat = Cat::new(alloc)?;
+    let shown = decide(alloc, &cat, &bars, &call, 0, 1);
+    assert!(rt; is_placed(&shown, "9"));
+    Ok(())
+}
+
+// Places what a call changes, if it changes anything.
+fn place(alloc: Global, cat: &mut Cat, call: &Call) -> Option<Placed> {
+    match decide(alloc, cat, &no_bars(alloc), call, 5, 1) {
+        Decided::Change(change, _) => cat.place(&change).ok(),
+        _ => None,
+    }
+}
+
+#[test]
+fn a_placed_change_is_taken_back(rt: HostRuntime) -> Result<(), Fail> {
+    let alloc = rt.alloc();
+    let call = create(alloc, "b")?;
+    let mut cat = Cat::new(alloc)?;
+    let placed = place(alloc, &mut cat, &call).ok_or("not placed")?;
+    assert_eq!(rt; cat.db_count(), 2);
+    cat.take_back(placed);
+    assert_eq!(rt; cat.db_count(), 1);
+    Ok(())
+}

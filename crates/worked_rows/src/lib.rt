@@ -1,7 +1,0 @@
-//! Worked rows of the metastore's top calls, as tests.
-#![tactic(auto)]
-
-#[cfg(test)]
-mod calls;
-#[cfg(test)]
-mod pipe;
