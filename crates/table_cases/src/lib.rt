@@ -13,6 +13,6 @@ mod unable;
 
 pub use case::{Case, case_of};
 pub use digits::{bytes_of, digits_of};
-pub use letters::letters_of;
+pub use letters::{letters_of, push_word};
 pub use table::{Answers, run_table};
 pub use unable::Unable;

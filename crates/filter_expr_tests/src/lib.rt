@@ -1,5 +1,0 @@
-//! Tests of partition filters.
-#![tactic(auto)]
-
-#[cfg(test)]
-mod tests;

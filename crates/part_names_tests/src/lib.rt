@@ -1,5 +1,0 @@
-//! Tests of the names of partitions.
-#![tactic(auto)]
-
-#[cfg(test)]
-mod tests;
