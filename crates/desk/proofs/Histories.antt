@@ -1,9 +1,10 @@
 -- How a legal history goes on.
-use Rattle.std.proofs.Common.{◌≡◌, ℕ, List, [], ◌∷◌, ◌++◌, map, refl, sym, ◌∙◌, ap, subst, arith}
+use Rattle.std.proofs.Common.{◌≡◌, ◌≢◌, ◌≤◌, ℕ, List, [], ◌∷◌, ◌++◌, map, refl, sym, ◌∙◌, ap, subst, arith}
 use Rattle.desk.specs.State.{State, Takes, due}
-use Rattle.desk.specs.History.{Moment, took, Place, place_of, next, place_after, IsLegal, MayFollow, Entry, run_of, start_of, IsRun}
+use Rattle.desk.specs.History.{Moment, took, Place, place_of, next, place_after, IsLegal, MayAnswer, MayFollow, NoneAbove, NoStoreFault, Entry, run_of, start_of, IsRun}
 use Rattle.desk.specs.declared.entries.Asked.{Asked}
 use Rattle.cat_types.specs.declared.steps.Answer.{Answer}
+use Rattle.cat_types.specs.declared.steps.Step.{Step}
 use Rattle.cat_types.specs.declared.steps.Answer.TheVariants.{Reply, NoMemory, StoreFault}
 
 pub place_after-append : (p : Place) (xs ys : List Moment) → place_after p (xs ++ ys) ≡ place_after (place_after p xs) ys
@@ -17,6 +18,11 @@ IsLegal-append p (x ∷ xs) ys l r = (l.0, IsLegal-append (next p x) xs ys l.1 r
 took-append : (es fs : List Entry) → map took (es ++ fs) ≡ map took es ++ map took fs
 took-append [] fs = refl
 took-append (e ∷ es) fs = ap (λ (l : List Moment). took e ∷ l) (took-append es fs)
+
+-- an entry more that is not above it either
+NoneAbove-push : (fault : ℕ) (es : List Entry) (e : Entry) → NoneAbove fault es → e.1.fault ≤ fault → NoneAbove fault (es ++ e ∷ [])
+NoneAbove-push fault [] e none one = (one, tt)
+NoneAbove-push fault (x ∷ es) e none one = (none.0, NoneAbove-push fault es e none.1 one)
 
 -- one entry more
 run_on : (old new : State) (id : List ℕ) (base : ℕ) (es : List Entry) (e : Entry)
@@ -33,6 +39,7 @@ run_on old new id base es e h may is none =
       legal = subst (IsLegal p) (sym all) (IsLegal-append p (map took es) (took e ∷ []) h.legal (may, tt));
       state = ap (λ (l : List Moment). (place_after p l).state) all ∙ ap (λ (q : Place). q.state) whole ∙ is;
       fault = ap (λ (l : List Moment). (place_after p l).fault) all ∙ ap (λ (q : Place). q.fault) whole ∙ none;
+      none = NoneAbove-push 0 es e h.none (omega (arith, none));
     }
 
 -- what a step of the store does, its history does
@@ -47,3 +54,14 @@ takes_on old new id base es asked (Reply r) takes h =
 pub logged : (old new : State) (id : List ℕ) (base : ℕ) (es fs : List Entry) (asked : Asked) (answer : Answer) → Takes old asked.caller asked.step answer new → IsRun (run_of old id base es)
     → fs ≡ es ++ (asked, record { answer = answer; fault = 0 }) ∷ [] → IsRun (run_of new id base fs)
 logged old new id base es fs asked answer takes h is = subst (λ (l : List Entry). IsRun (run_of new id base l)) (sym is) (takes_on old new id base es asked answer takes h)
+
+-- a fault of the store would have raised the fault number above 0
+not_told : (p : Place) (caller fault : ℕ) (step : Step) (answer : Answer) → MayAnswer p caller step answer fault → fault ≤ 0 → answer ≢ StoreFault
+not_told p caller fault step NoMemory may none is = absurd cc
+not_told p caller fault step StoreFault may none is = omega (arith, may.1, none)
+not_told p caller fault step (Reply r) may none is = absurd cc
+
+-- where no fault was counted none was told
+pub no_store_fault : (p : Place) (es : List Entry) → IsLegal p (map took es) → NoneAbove 0 es → NoStoreFault es
+no_store_fault p [] legal none = tt
+no_store_fault p (e ∷ es) legal none = (not_told p e.0.caller e.1.fault e.0.step e.1.answer legal.0.1 none.0, no_store_fault (next p (took e)) es legal.1 none.1)

@@ -1,5 +1,6 @@
 -- Histories of a store, and which of them are legal.
-use Rattle.std.specs.Prelude.{◌≡◌, ℕ, ◌+◌, ◌≤◌, ◌==◌, Bool, true, false, List, [], ◌∷◌, ◌++◌, map, Option, Some, None, option_to_list, IsSome, if◌then◌else◌}
+use Rattle.std.specs.Prelude.{◌≡◌, ◌≢◌, ℕ, ◌+◌, ◌≤◌, ◌==◌, Bool, true, false, List, [], ◌∷◌, ◌++◌, map, Option, Some, None, option_to_list, IsSome, if◌then◌else◌}
+use Rattle.std.specs.List.{AllByRecursion}
 use Rattle.cat_types.specs.declared.changes.Event.{Event}
 use Rattle.cat_types.specs.declared.steps.Answer.{Answer}
 use Rattle.cat_types.specs.declared.steps.Answer.TheVariants as answer
@@ -106,6 +107,14 @@ Legal s es = IsLegal (place_of s) (map took es)
 abbrev pub state_after : Start → List Entry → State
 state_after s es = (place_after (place_of s) (map took es)).state
 
+-- no entry has a fault number above this one
+abbrev pub NoneAbove : ℕ → List Entry → Type 0
+NoneAbove fault es = AllByRecursion (λ e. e.1.fault ≤ fault) es
+
+-- no answer is a fault of the store
+abbrev pub NoStoreFault : List Entry → Type 0
+NoStoreFault es = AllByRecursion (λ e. e.1.answer ≢ answer.StoreFault) es
+
 -- the events of a moment, and of a history, in order
 abbrev pub events_at : Place → Moment → List Event
 events_at p (took e) = if is_refused e.1.answer then [] else option_to_list (event_of p.state e.0.step)
@@ -133,3 +142,4 @@ pub record IsRun (r : Run) : Type 0 where
   pub legal : Legal (start_of r) r.history
   pub state : state_after (start_of r) r.history ≡ r.state
   pub fault : (place_after (place_of (start_of r)) (map took r.history)).fault ≡ 0
+  pub none : NoneAbove 0 r.history

@@ -3,7 +3,7 @@
 ghost use Rattle.std.specs.Prelude.{◌≡◌, ◌≤◌, ◌++◌, ◌∷◌, [], IsTrue, List, drop, false};
 ghost use Rattle.desk.specs.Entries.{Others};
 ghost use Rattle.desk.specs.Scripts.{AskedBy, IsAskedBy};
-ghost use Rattle.desk.specs.History.{Entry, Legal};
+ghost use Rattle.desk.specs.History.{Entry, Legal, NoneAbove};
 
 use crate::{Core, Desk, Foreign};
 use cat_types::{Answer, Step};
@@ -95,6 +95,7 @@ impl<C: Core> Desk for ScriptDesk<C> {
             × (C.history self.new.core ≡ (C.history self.old.core ++ between) ++ (record { caller = 0; step = s }, record { answer = result; fault = C.faults self.new.core }) ∷ []) }
         ensures sole { IsTrue false → C.history self.new.core ≡ C.history self.old.core ++ (record { caller = 0; step = s }, record { answer = result; fault = C.faults self.new.core }) ∷ [] }
         ensures legal { Legal (C.start self.new.core) (C.history self.new.core) }
+        ensures counted { NoneAbove (C.faults self.new.core) (C.history self.new.core) }
         // The turns before it are those of the script's next list, and the others are still to come.
         ensures script { (between : List Entry) × AskedBy (next_list (lists_of self.old.to_come)) between
             × (C.history self.new.core ≡ (C.history self.old.core ++ between) ++ (record { caller = 0; step = s }, record { answer = result; fault = C.faults self.new.core }) ∷ []) }

@@ -3,7 +3,7 @@ use Rattle.std.specs.Prelude.{◌≡◌, ℕ, ◌⊎◌, List, [], ◌∷◌, �
 use Rattle.std.specs.Fmt.{decimal}
 use Rattle.std.specs.Io.KnownBytes.{Consumes}
 use Rattle.hms_outside.specs.Told.{Goes, Grew, Held, Same, Sent}
-use Rattle.desk.specs.History.{Entry, Legal, Start}
+use Rattle.desk.specs.History.{Entry, Legal, NoneAbove, Start}
 use Rattle.desk.specs.State.{start}
 use Rattle.ms_session.specs.Session.{Met, Session}
 use Rattle.ms_session.specs.declared.end.End.{End}
@@ -67,12 +67,13 @@ TellsEnd end result old new = TellsLine (line_of end) result old new
 abbrev pub new_store : Start
 new_store = record { state = start (replicate 16 0) 0; fault = 0 }
 
--- the words are the command: a session was served at a new store to a caller alone, and its end told; these entries are all that the store went through
+-- the words are the command: a session was served at a new store to a caller alone, and its end told; these entries are all that the store went through, and, as it lies in memory, it counted no fault
 pub record Piped (words : List (List ℕ)) (old new : Met) (errors errors' : Option Held) (status : ℕ) : Type 0 where
   pub command : IsPipe words
   pub entries : List Entry
   pub ended : End
   pub legal : Legal new_store entries
+  pub no_fault : NoneAbove 0 entries
   pub session : Session old new entries ended
   pub status_is : status ≡ status_of ended
   pub told : Tells ended errors errors'

@@ -1,6 +1,6 @@
 //! Laws of the top call, each the contract of a function that does nothing.
 
-ghost use Rattle.ms_cli.specs.Laws.{WholeTextsArePiped};
+ghost use Rattle.ms_cli.specs.Laws.{PipeHasNoStoreFault, WholeTextsArePiped};
 
 use ms_session::whole_texts_are_served;
 
@@ -12,3 +12,8 @@ pub fn whole_texts_are_piped()
 {
     whole_texts_are_served();
 }
+
+/// `pipe` lies in memory, so none of its replies is a fault of the store.
+pub fn pipe_has_no_store_fault()
+    ensures { PipeHasNoStoreFault }
+{}

@@ -5,5 +5,5 @@ mod laws;
 mod local;
 mod telling;
 
-pub use laws::whole_texts_are_piped;
+pub use laws::{pipe_has_no_store_fault, whole_texts_are_piped};
 pub use local::{LocalEnd, run_local};

@@ -2,7 +2,7 @@
 
 ghost use Rattle.std.specs.Prelude.{◌≡◌, ◌≤◌, ◌↔◌, IsTrue, List, map, string_bytes};
 ghost use Rattle.hms_outside.specs.Causes.{Rose};
-ghost use Rattle.desk.specs.History.{Entry, Legal};
+ghost use Rattle.desk.specs.History.{Entry, Legal, NoneAbove};
 ghost use Rattle.ms_cli.specs.Local.{IsPipe, Runs, Tells, new_store, status_of};
 ghost use Rattle.ms_session.specs.Session.{Session};
 ghost use Rattle.ms_session.specs.declared.end.End.{End};
@@ -81,7 +81,7 @@ fn pipe<S: Source, K: Sink, E: Sink, F: Folder, C: Clock>(
     folder: &mut F,
     clock: &mut C,
 ) -> u8
-    ensures session { (entries : List Entry) × (ended : End) × Legal new_store entries
+    ensures session { (entries : List Entry) × (ended : End) × Legal new_store entries × NoneAbove 0 entries
         × Session (record { left = S.left input.old; held = K.held output.old; clock = C.moments clock.old }) (record { left = S.left input.new; held = K.held output.new; clock = C.moments clock.new }) entries ended
         × (result ≡ status_of ended) × Tells ended (E.held errors.old) (E.held errors.new) }
     ensures read { result ≡ 3 → Rose (S.faults input.old) (S.faults input.new) }
@@ -101,7 +101,7 @@ fn serve_new<S: Source, K: Sink, F: Folder, C: Clock>(
     folder: &mut F,
     clock: &mut C,
 ) -> End
-    ensures session { (entries : List Entry) × Legal new_store entries
+    ensures session { (entries : List Entry) × Legal new_store entries × NoneAbove 0 entries
         × Session (record { left = S.left input.old; held = K.held output.old; clock = C.moments clock.old }) (record { left = S.left input.new; held = K.held output.new; clock = C.moments clock.new }) entries result }
     ensures read { result ≡ End.ReadFault → Rose (S.faults input.old) (S.faults input.new) }
     ensures write { result ≡ End.WriteFault → Rose (K.faults output.old) (K.faults output.new) }

@@ -3,7 +3,7 @@
 ghost use Rattle.std.specs.Prelude.{◌≡◌, ◌≤◌, IfOk, Option, Some};
 ghost use Rattle.cat_types.specs.declared.replies.Reply.{Reply};
 ghost use Rattle.desk.specs.Adds.{Adds};
-ghost use Rattle.desk.specs.History.{Legal};
+ghost use Rattle.desk.specs.History.{Legal, NoneAbove};
 ghost use Rattle.ms_calls.specs.Asked.{IfClient, IfPlain, method_of};
 ghost use Rattle.ms_calls.specs.Replies.{CanReply};
 ghost use Rattle.ms_calls.specs.declared.method.Method.{Method};
@@ -27,6 +27,7 @@ pub fn carry_out<D: Desk, C: Clock>(
     ensures caller { D.caller desk.new ≡ D.caller desk.old }
     ensures start { D.start desk.new ≡ D.start desk.old }
     ensures legal { Legal (D.start desk.old) (D.history desk.old) → Legal (D.start desk.new) (D.history desk.new) }
+    ensures counted { NoneAbove (D.faults desk.old) (D.history desk.old) → NoneAbove (D.faults desk.new) (D.history desk.new) }
     ensures clock_later { C.faults clock.old ≤ C.faults clock.new }
     ensures carried { Adds D.alone (D.caller desk.old) (D.history desk.old) (D.history desk.new) (Did asked (C.moments clock.old) (C.moments clock.new) result) }
     ensures can { (method : Option Method) → IfPlain asked (CanReply method) → IfClient asked (λ call. method ≡ Some (method_of call)) → IfOk result (CanReply method) }
@@ -50,6 +51,7 @@ fn call_desk<D: Desk, C: Clock>(
     ensures caller { D.caller desk.new ≡ D.caller desk.old }
     ensures start { D.start desk.new ≡ D.start desk.old }
     ensures legal { Legal (D.start desk.new) (D.history desk.new) }
+    ensures counted { NoneAbove (D.faults desk.new) (D.history desk.new) }
     ensures clock_later { C.faults clock.old ≤ C.faults clock.new }
     ensures carried { Adds D.alone (D.caller desk.old) (D.history desk.old) (D.history desk.new) (Did (Asked.Client call) (C.moments clock.old) (C.moments clock.new) result) }
     ensures can { IfOk result (CanReply (Some (method_of call))) }

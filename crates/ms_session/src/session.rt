@@ -3,7 +3,7 @@
 ghost use Rattle.std.specs.Prelude.{◌≡◌, ◌≤◌, [], ℕ, take, IsErrOf, OnOk};
 ghost use Rattle.hms_outside.specs.Causes.{Rose};
 ghost use Rattle.desk.specs.Adds.{Adds};
-ghost use Rattle.desk.specs.History.{Legal};
+ghost use Rattle.desk.specs.History.{Legal, NoneAbove};
 ghost use Rattle.thrift_binary.specs.Taking.{start};
 ghost use Rattle.ms_calls.specs.declared.request.Asked.{Asked};
 ghost use Rattle.ms_session.specs.Requests.{Fits};
@@ -42,6 +42,7 @@ pub fn serve_session<S: Source, K: Sink, D: Desk, F: Folder, C: Clock>(
     ensures caller { D.caller desk.new ≡ D.caller desk.old }
     ensures start { D.start desk.new ≡ D.start desk.old }
     ensures legal { Legal (D.start desk.old) (D.history desk.old) → Legal (D.start desk.new) (D.history desk.new) }
+    ensures counted { NoneAbove (D.faults desk.old) (D.history desk.old) → NoneAbove (D.faults desk.new) (D.history desk.new) }
     ensures source_later { S.faults source.old ≤ S.faults source.new }
     ensures sink_later { K.faults sink.old ≤ K.faults sink.new }
     ensures clock_later { C.faults clock.old ≤ C.faults clock.new }
@@ -68,6 +69,7 @@ fn answer_all<S: Source, K: Sink, D: Desk, C: Clock>(
     ensures caller { D.caller desk.new ≡ D.caller desk.old }
     ensures start { D.start desk.new ≡ D.start desk.old }
     ensures legal { Legal (D.start desk.old) (D.history desk.old) → Legal (D.start desk.new) (D.history desk.new) }
+    ensures counted { NoneAbove (D.faults desk.old) (D.history desk.old) → NoneAbove (D.faults desk.new) (D.history desk.new) }
     ensures source_later { S.faults reader.old.source.now ≤ S.faults reader.new.source.now }
     ensures sink_later { K.faults sink.old ≤ K.faults sink.new }
     ensures clock_later { C.faults clock.old ≤ C.faults clock.new }
@@ -123,6 +125,7 @@ fn answer<K: Sink, D: Desk, C: Clock>(
     ensures caller { D.caller desk.new ≡ D.caller desk.old }
     ensures start { D.start desk.new ≡ D.start desk.old }
     ensures legal { Legal (D.start desk.old) (D.history desk.old) → Legal (D.start desk.new) (D.history desk.new) }
+    ensures counted { NoneAbove (D.faults desk.old) (D.history desk.old) → NoneAbove (D.faults desk.new) (D.history desk.new) }
     ensures later { K.faults sink.old ≤ K.faults sink.new }
     ensures clock_later { C.faults clock.old ≤ C.faults clock.new }
     ensures cause { IsErrOf result SendFault.WriteFault → Rose (K.faults sink.old) (K.faults sink.new) }

@@ -16,6 +16,7 @@ loop-request-init g c = record {
   caller = refl;
   start = refl;
   legal = λ was. was;
+  counted = λ was. was;
   so_far = adds_none _ _ _ _ (nothing_yet _ _ (ap (λ (p : Progress). p.place) c.requires));
 }
 
@@ -44,6 +45,7 @@ loop-request-preserved g c = record {
   caller = c.answer.ensures.caller ∙ c.loop-request.invariant.caller;
   start = c.answer.ensures.start ∙ c.loop-request.invariant.start;
   legal = λ was. c.answer.ensures.legal (c.loop-request.invariant.legal was);
+  counted = λ was. c.answer.ensures.counted (c.loop-request.invariant.counted was);
   so_far = adds_both _ _ _ _ _ _ _ _ c.loop-request.invariant.so_far (adds_as _ _ _ _ _ _ c.loop-request.invariant.caller c.in-Ok.ensures.answers)
       (λ xs ys so_far answers. one_more _ _ _ c.loop-request.reader.progress _ xs ys c.in-Ok-Some.request so_far (came _ _ _ _ _ (rw c.in-Ok-Some.field-0-is at c.in-Ok-Some.ensures.reads)) answers);
 }

@@ -1,6 +1,6 @@
 use Rattle.std.proofs.Common.{◌≡◌, ◌-◌, ◌≤◌, [], None}
 use Rattle.desk.specs.Adds.{Adds}
-use Rattle.desk.specs.History.{Legal}
+use Rattle.desk.specs.History.{Legal, NoneAbove}
 use Rattle.thrift_binary.specs.declared.limits.TheConstants.{SESSION_END}
 use Rattle.ms_session.proofs.Sessions.{SoFar}
 use Rattle.ms_session.proofs.session.answer_all.Given as goal
@@ -16,6 +16,7 @@ invariant-loop-request g l = record {
   caller : g.D.Desk.caller l.desk ≡ g.D.Desk.caller l.initial.desk;
   start : g.D.Desk.start l.desk ≡ g.D.Desk.start l.initial.desk;
   legal : Legal (g.D.Desk.start l.initial.desk) (g.D.Desk.history l.initial.desk) → Legal (g.D.Desk.start l.desk) (g.D.Desk.history l.desk);
+  counted : NoneAbove (g.D.Desk.faults l.initial.desk) (g.D.Desk.history l.initial.desk) → NoneAbove (g.D.Desk.faults l.desk) (g.D.Desk.history l.desk);
   so_far : Adds g.D.Desk.alone (g.D.Desk.caller l.initial.desk) (g.D.Desk.history l.initial.desk) (g.D.Desk.history l.desk) (λ own.
       SoFar (record { left = g.S.Source.left l.initial.reader.source.now; held = g.K.Sink.held l.initial.sink; clock = g.C.Clock.moments l.initial.clock })
       (record { left = g.S.Source.left l.reader.source.now; held = g.K.Sink.held l.sink; clock = g.C.Clock.moments l.clock }) l.reader.progress.place own);

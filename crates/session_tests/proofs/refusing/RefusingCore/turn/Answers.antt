@@ -10,3 +10,7 @@ invariant_of-self c = logged (start [] 0) (start [] 0) [] 0 c.self.inside.log.it
 pub returns-clause-legal : goal.returns-clause-legal
 returns-clause-legal c =
     (logged (start [] 0) (start [] 0) [] 0 c.self.inside.log.items _ (record { caller = c.args.caller; step = c.args.s }) NoMemory refl c.self.invariant c.and-self-inside.ensures).legal
+
+pub returns-clause-counted : goal.returns-clause-counted
+returns-clause-counted c =
+    (logged (start [] 0) (start [] 0) [] 0 c.self.inside.log.items _ (record { caller = c.args.caller; step = c.args.s }) NoMemory refl c.self.invariant c.and-self-inside.ensures).none
