@@ -1,7 +1,7 @@
 //! Sending bytes whole to a sink.
 
-ghost use Rattle.std.specs.Prelude.{◌≤◌, ℕ, take, IsErrOf, OnErr, OnOk};
-ghost use Rattle.hms_outside.specs.Causes.{Rose};
+ghost use Rattle.std.specs.Prelude.{ℕ, take, OnErr, OnOk};
+ghost use Rattle.hms_outside.specs.Causes.{HasCause};
 ghost use Rattle.hms_outside.specs.Told.{Goes, Grew, Sent};
 
 use crate::{Outage, Sink};
@@ -10,8 +10,7 @@ use crate::{Outage, Sink};
 pub fn send_all<K: Sink>(sink: &mut K, bytes: &[u8]) -> Result<(), Outage>
     ensures ok { OnOk result (Goes (Sent bytes.now) (K.held sink.old) (K.held sink.new)) }
     ensures err { OnErr result ((n : ℕ) × Goes (Grew (take n bytes.now)) (K.held sink.old) (K.held sink.new)) }
-    ensures later { K.faults sink.old ≤ K.faults sink.new }
-    ensures cause { IsErrOf result Outage.Failed → Rose (K.faults sink.old) (K.faults sink.new) }
+    ensures cause { HasCause (K.faults sink.old) (K.faults sink.new) result }
 {
     write_all(sink, bytes)?;
     match sink.flush() {
@@ -25,8 +24,7 @@ pub fn send_all<K: Sink>(sink: &mut K, bytes: &[u8]) -> Result<(), Outage>
 fn write_all<K: Sink>(sink: &mut K, message: &[u8]) -> Result<(), Outage>
     ensures ok { OnOk result (Goes (Grew message.now) (K.held sink.old) (K.held sink.new)) }
     ensures err { OnErr result ((n : ℕ) × Goes (Grew (take n message.now)) (K.held sink.old) (K.held sink.new)) }
-    ensures later { K.faults sink.old ≤ K.faults sink.new }
-    ensures cause { IsErrOf result Outage.Failed → Rose (K.faults sink.old) (K.faults sink.new) }
+    ensures cause { HasCause (K.faults sink.old) (K.faults sink.new) result }
 {
     let mut at = 0;
     while at < message.len() {

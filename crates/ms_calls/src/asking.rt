@@ -1,7 +1,7 @@
 //! What messages ask.
 
 ghost use Rattle.std.specs.Prelude.{◌≡◌, ◌≤◌, [], ◌∷◌, None, Some, IfOk, IsErrOf, OnOk};
-ghost use Rattle.hms_outside.specs.Causes.{Rose};
+ghost use Rattle.hms_outside.specs.Causes.{Rose, StaysBut};
 ghost use Rattle.ms_calls.specs.Asked.{IfClient, IfPlain, asked_by, asked_of, asked_plainly, method_of, server_name};
 ghost use Rattle.ms_calls.specs.Methods.{method_named};
 ghost use Rattle.ms_calls.specs.Replies.{CanReply};
@@ -28,6 +28,7 @@ pub fn asked<S: Source>(
     ensures same_source { reader.new.source.ghost_name ≡ reader.old.source.ghost_name }
     ensures later { S.faults reader.old.source.now ≤ S.faults reader.new.source.now }
     ensures cause { reader.old.progress.fault ≡ None → IsErrOf result WireFault.ReadFault → Rose (S.faults reader.old.source.now) (S.faults reader.new.source.now) }
+    ensures stays { StaysBut WireFault.ReadFault result (S.faults reader.old.source.now) (S.faults reader.new.source.now) }
     ensures reads { Gets (S.left reader.old.source.now) (S.left reader.new.source.now) reader.old.progress reader.new.progress result (λ v. IsWire (Struct v) reader.old.progress.room 12) (λ v asked. asked ≡ asked_of head.now.name v) (StopsWire reader.old.progress.room 12) }
     ensures unspent { OnOk result (reader.new.progress.fault ≡ None) }
     ensures plain { IfOk result (λ asked. IfPlain asked (CanReply (method_named head.now.name))) }
@@ -45,6 +46,7 @@ fn asked_by<S: Source>(
     ensures same_source { reader.new.source.ghost_name ≡ reader.old.source.ghost_name }
     ensures later { S.faults reader.old.source.now ≤ S.faults reader.new.source.now }
     ensures cause { reader.old.progress.fault ≡ None → IsErrOf result WireFault.ReadFault → Rose (S.faults reader.old.source.now) (S.faults reader.new.source.now) }
+    ensures stays { StaysBut WireFault.ReadFault result (S.faults reader.old.source.now) (S.faults reader.new.source.now) }
     ensures reads { Gets (S.left reader.old.source.now) (S.left reader.new.source.now) reader.old.progress reader.new.progress result (λ v. IsWire (Struct v) reader.old.progress.room 12) (λ v asked. asked ≡ asked_by method v) (StopsWire reader.old.progress.room 12) }
 {
     match method {
@@ -64,6 +66,7 @@ fn skip_arguments<S: Source>(
     ensures same_source { reader.new.source.ghost_name ≡ reader.old.source.ghost_name }
     ensures later { S.faults reader.old.source.now ≤ S.faults reader.new.source.now }
     ensures cause { reader.old.progress.fault ≡ None → IsErrOf result WireFault.ReadFault → Rose (S.faults reader.old.source.now) (S.faults reader.new.source.now) }
+    ensures stays { StaysBut WireFault.ReadFault result (S.faults reader.old.source.now) (S.faults reader.new.source.now) }
     ensures reads { Gets (S.left reader.old.source.now) (S.left reader.new.source.now) reader.old.progress reader.new.progress result (λ v. IsWire (Struct v) reader.old.progress.room 12) (λ _ asked. asked ≡ asked_plainly method) (StopsWire reader.old.progress.room 12) }
 {
     skip_field(reader, 12)?;

@@ -1,6 +1,6 @@
 //! The top call of one process.
 
-ghost use Rattle.std.specs.Prelude.{◌≡◌, ◌≤◌, ◌↔◌, IsTrue, List, map, string_bytes};
+ghost use Rattle.std.specs.Prelude.{◌≡◌, ◌≢◌, ◌↔◌, IsTrue, List, map, string_bytes};
 ghost use Rattle.hms_outside.specs.Causes.{Rose};
 ghost use Rattle.desk.specs.History.{Entry, Legal, NoneAbove};
 ghost use Rattle.ms_cli.specs.Local.{IsPipe, Runs, Tells, new_store, status_of};
@@ -44,6 +44,8 @@ pub fn run_local<S: Source, K: Sink, E: Sink, D: Disk, F: Folder, C: Clock>(
     ensures runs { Runs (map string_bytes words.now) (record { left = S.left input.old; held = K.held output.old; clock = C.moments clock.old }) (record { left = S.left input.new; held = K.held output.new; clock = C.moments clock.new }) (E.held errors.old) (E.held errors.new) result.status }
     ensures read { result.status ≡ 3 → Rose (S.faults input.old) (S.faults input.new) }
     ensures write { result.status ≡ 4 → Rose (K.faults output.old) (K.faults output.new) }
+    ensures input_stays { result.status ≢ 3 → S.faults input.new ≡ S.faults input.old }
+    ensures output_stays { result.status ≢ 4 → K.faults output.new ≡ K.faults output.old }
     ensures disk_a { result.disk_a ≡ disk_a }
     ensures disk_b { result.disk_b ≡ disk_b }
     ensures folder { folder.new ≡ folder.old }
@@ -86,6 +88,8 @@ fn pipe<S: Source, K: Sink, E: Sink, F: Folder, C: Clock>(
         × (result ≡ status_of ended) × Tells ended (E.held errors.old) (E.held errors.new) }
     ensures read { result ≡ 3 → Rose (S.faults input.old) (S.faults input.new) }
     ensures write { result ≡ 4 → Rose (K.faults output.old) (K.faults output.new) }
+    ensures input_stays { result ≢ 3 → S.faults input.new ≡ S.faults input.old }
+    ensures output_stays { result ≢ 4 → K.faults output.new ≡ K.faults output.old }
     ensures folder { folder.new ≡ folder.old }
 {
     let end = serve_new(alloc, input, output, folder, clock);
@@ -105,6 +109,8 @@ fn serve_new<S: Source, K: Sink, F: Folder, C: Clock>(
         × Session (record { left = S.left input.old; held = K.held output.old; clock = C.moments clock.old }) (record { left = S.left input.new; held = K.held output.new; clock = C.moments clock.new }) entries result }
     ensures read { result ≡ End.ReadFault → Rose (S.faults input.old) (S.faults input.new) }
     ensures write { result ≡ End.WriteFault → Rose (K.faults output.old) (K.faults output.new) }
+    ensures input_stays { result ≢ End.ReadFault → S.faults input.new ≡ S.faults input.old }
+    ensures output_stays { result ≢ End.WriteFault → K.faults output.new ≡ K.faults output.old }
     ensures folder { folder.new ≡ folder.old }
 {
     match MemCore::new(alloc, [0; 16], 0) {

@@ -1,7 +1,7 @@
 //! One session: messages in, replies out.
 
-ghost use Rattle.std.specs.Prelude.{◌≡◌, ◌≤◌, [], ℕ, take, IsErrOf, OnOk};
-ghost use Rattle.hms_outside.specs.Causes.{Rose};
+ghost use Rattle.std.specs.Prelude.{◌≡◌, ◌≢◌, ◌≤◌, [], ℕ, take, IsErrOf, OnOk};
+ghost use Rattle.hms_outside.specs.Causes.{Rose, StaysBut};
 ghost use Rattle.desk.specs.Adds.{Adds};
 ghost use Rattle.desk.specs.History.{Legal, NoneAbove};
 ghost use Rattle.thrift_binary.specs.Taking.{start};
@@ -48,6 +48,8 @@ pub fn serve_session<S: Source, K: Sink, D: Desk, F: Folder, C: Clock>(
     ensures clock_later { C.faults clock.old ≤ C.faults clock.new }
     ensures read { result ≡ End.ReadFault → Rose (S.faults source.old) (S.faults source.new) }
     ensures write { result ≡ End.WriteFault → Rose (K.faults sink.old) (K.faults sink.new) }
+    ensures source_stays { result ≢ End.ReadFault → S.faults source.new ≡ S.faults source.old }
+    ensures sink_stays { result ≢ End.WriteFault → K.faults sink.new ≡ K.faults sink.old }
     ensures folder { _folder.new ≡ _folder.old }
 {
     let mut reader = WireReader::new(source);
@@ -75,6 +77,8 @@ fn answer_all<S: Source, K: Sink, D: Desk, C: Clock>(
     ensures clock_later { C.faults clock.old ≤ C.faults clock.new }
     ensures read { result ≡ End.ReadFault → Rose (S.faults reader.old.source.now) (S.faults reader.new.source.now) }
     ensures write { result ≡ End.WriteFault → Rose (K.faults sink.old) (K.faults sink.new) }
+    ensures source_stays { result ≢ End.ReadFault → S.faults reader.new.source.now ≡ S.faults reader.old.source.now }
+    ensures sink_stays { result ≢ End.WriteFault → K.faults sink.new ≡ K.faults sink.old }
 {
     let mut writer = WireWriter::new(alloc);
     loop {
@@ -129,6 +133,7 @@ fn answer<K: Sink, D: Desk, C: Clock>(
     ensures later { K.faults sink.old ≤ K.faults sink.new }
     ensures clock_later { C.faults clock.old ≤ C.faults clock.new }
     ensures cause { IsErrOf result SendFault.WriteFault → Rose (K.faults sink.old) (K.faults sink.new) }
+    ensures sink_stays { StaysBut SendFault.WriteFault result (K.faults sink.old) (K.faults sink.new) }
 {
     let Request { head, asked } = request;
     let due = carry_out(alloc, asked, desk, clock);

@@ -1,7 +1,7 @@
 //! Databases.
 
 ghost use Rattle.std.specs.Prelude.{◌≡◌, ℕ, ℤ, ◌≤◌, None, IsErrOf};
-ghost use Rattle.hms_outside.specs.Causes.{Rose};
+ghost use Rattle.hms_outside.specs.Causes.{Rose, StaysBut};
 ghost use Rattle.ms_structs.specs.Getting.{Makes};
 ghost use Rattle.thrift_binary.specs.Sending.{Gathers};
 ghost use Rattle.thrift_binary.specs.Strict.{fields_bytes, wire_bytes};
@@ -108,6 +108,7 @@ pub fn read_database<S: Source>(
     ensures same_source { reader.new.source.ghost_name ≡ reader.old.source.ghost_name }
     ensures later { S.faults reader.old.source.now ≤ S.faults reader.new.source.now }
     ensures cause { reader.old.progress.fault ≡ None → IsErrOf result (StructFault.Wire WireFault.ReadFault) → Rose (S.faults reader.old.source.now) (S.faults reader.new.source.now) }
+    ensures stays { StaysBut (StructFault.Wire WireFault.ReadFault) result (S.faults reader.old.source.now) (S.faults reader.new.source.now) }
     ensures reads { Makes (S.left reader.old.source.now) (S.left reader.new.source.now) reader.old.progress reader.new.progress result database_made }
 {
     read_whole::<DatabaseFields, S>(alloc, reader)

@@ -1,7 +1,7 @@
 //! Values of one type off the wire.
 
 ghost use Rattle.std.specs.Prelude.{◌≡◌, ℕ, ◌≤◌, None, IsErrOf, ⊤};
-ghost use Rattle.hms_outside.specs.Causes.{Rose};
+ghost use Rattle.hms_outside.specs.Causes.{Rose, StaysBut};
 ghost use Rattle.ms_structs.specs.Getting.{Gets};
 ghost use Rattle.thrift_binary.specs.Tree.{Wire};
 ghost use Rattle.thrift_binary.specs.Wire.{IsCode, IsWire, StopsWire};
@@ -33,6 +33,7 @@ pub trait FromWire: Drop {
         ensures same_source { reader.new.source.ghost_name ≡ reader.old.source.ghost_name }
         ensures later { S.faults reader.old.source.now ≤ S.faults reader.new.source.now }
         ensures cause { reader.old.progress.fault ≡ None → IsErrOf result WireFault.ReadFault → Rose (S.faults reader.old.source.now) (S.faults reader.new.source.now) }
+        ensures stays { StaysBut WireFault.ReadFault result (S.faults reader.old.source.now) (S.faults reader.new.source.now) }
         ensures reads { Gets (S.left reader.old.source.now) (S.left reader.new.source.now) reader.old.progress reader.new.progress result (λ w. IsWire w reader.old.progress.room CODE) (λ w got. got ≡ means w) (StopsWire reader.old.progress.room CODE) };
 }
 
@@ -46,6 +47,7 @@ pub fn read_typed<T: FromWire, S: Source>(
     ensures same_source { reader.new.source.ghost_name ≡ reader.old.source.ghost_name }
     ensures later { S.faults reader.old.source.now ≤ S.faults reader.new.source.now }
     ensures cause { reader.old.progress.fault ≡ None → IsErrOf result WireFault.ReadFault → Rose (S.faults reader.old.source.now) (S.faults reader.new.source.now) }
+    ensures stays { StaysBut WireFault.ReadFault result (S.faults reader.old.source.now) (S.faults reader.new.source.now) }
     ensures reads { Gets (S.left reader.old.source.now) (S.left reader.new.source.now) reader.old.progress reader.new.progress result (λ w. IsWire w reader.old.progress.room ty) (λ w got. got ≡ typed T.CODE T.means ty w) (StopsWire reader.old.progress.room ty) }
 {
     if ty == T::CODE {
@@ -61,6 +63,7 @@ pub fn skip_field<S: Source>(reader: &mut WireReader<'_, S>, ty: u8) -> Result<(
     ensures same_source { reader.new.source.ghost_name ≡ reader.old.source.ghost_name }
     ensures later { S.faults reader.old.source.now ≤ S.faults reader.new.source.now }
     ensures cause { reader.old.progress.fault ≡ None → IsErrOf result WireFault.ReadFault → Rose (S.faults reader.old.source.now) (S.faults reader.new.source.now) }
+    ensures stays { StaysBut WireFault.ReadFault result (S.faults reader.old.source.now) (S.faults reader.new.source.now) }
     ensures reads { Gets (S.left reader.old.source.now) (S.left reader.new.source.now) reader.old.progress reader.new.progress result (λ w. IsWire w reader.old.progress.room ty) (λ _ _. ⊤) (StopsWire reader.old.progress.room ty) }
 {
     reader.skip(ty)
@@ -78,6 +81,7 @@ impl<T: FromWire> Got<T> {
         ensures same_source { reader.new.source.ghost_name ≡ reader.old.source.ghost_name }
         ensures later { S.faults reader.old.source.now ≤ S.faults reader.new.source.now }
         ensures cause { reader.old.progress.fault ≡ None → IsErrOf result WireFault.ReadFault → Rose (S.faults reader.old.source.now) (S.faults reader.new.source.now) }
+        ensures stays { StaysBut WireFault.ReadFault result (S.faults reader.old.source.now) (S.faults reader.new.source.now) }
         ensures reads { Gets (S.left reader.old.source.now) (S.left reader.new.source.now) reader.old.progress reader.new.progress result (λ w. IsWire w reader.old.progress.room ty) (λ w _. self.new ≡ over (typed T.CODE T.means ty w) self.old) (StopsWire reader.old.progress.room ty) }
     {
         self.put(read_typed::<T, S>(alloc, reader, ty)?);

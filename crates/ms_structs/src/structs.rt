@@ -1,7 +1,7 @@
 //! Structs off the wire, field by field.
 
 ghost use Rattle.std.specs.Prelude.{◌≡◌, ℕ, ℤ, ◌≤◌, Option, None, IsErrOf};
-ghost use Rattle.hms_outside.specs.Causes.{Rose};
+ghost use Rattle.hms_outside.specs.Causes.{Rose, StaysBut};
 ghost use Rattle.ms_structs.specs.Getting.{Gets, Makes};
 ghost use Rattle.thrift_binary.specs.Tree.{Struct, Wire};
 ghost use Rattle.thrift_binary.specs.Wire.{IsCode, IsStruct, IsWire, StopsFields, StopsWire};
@@ -37,6 +37,7 @@ pub trait FieldSink: Drop {
         ensures same_source { reader.new.source.ghost_name ≡ reader.old.source.ghost_name }
         ensures later { S.faults reader.old.source.now ≤ S.faults reader.new.source.now }
         ensures cause { reader.old.progress.fault ≡ None → IsErrOf result WireFault.ReadFault → Rose (S.faults reader.old.source.now) (S.faults reader.new.source.now) }
+        ensures stays { StaysBut WireFault.ReadFault result (S.faults reader.old.source.now) (S.faults reader.new.source.now) }
         ensures reads { Gets (S.left reader.old.source.now) (S.left reader.new.source.now) reader.old.progress reader.new.progress result (λ w. IsWire w reader.old.progress.room ty) (λ w _. self.new ≡ set self.old ty id w) (StopsWire reader.old.progress.room ty) };
 }
 
@@ -63,6 +64,7 @@ fn read_fields<F: FieldSink, S: Source>(
     ensures same_source { reader.new.source.ghost_name ≡ reader.old.source.ghost_name }
     ensures later { S.faults reader.old.source.now ≤ S.faults reader.new.source.now }
     ensures cause { reader.old.progress.fault ≡ None → IsErrOf result WireFault.ReadFault → Rose (S.faults reader.old.source.now) (S.faults reader.new.source.now) }
+    ensures stays { StaysBut WireFault.ReadFault result (S.faults reader.old.source.now) (S.faults reader.new.source.now) }
     ensures reads { Gets (S.left reader.old.source.now) (S.left reader.new.source.now) reader.old.progress reader.new.progress result (λ v. IsStruct reader.old.progress.room v) (λ v _. slots.new ≡ fold_fields F.set slots.old v) (StopsFields reader.old.progress.room) }
 {
     loop {
@@ -81,6 +83,7 @@ pub fn read_slots<F: FieldSink, S: Source>(
     ensures same_source { reader.new.source.ghost_name ≡ reader.old.source.ghost_name }
     ensures later { S.faults reader.old.source.now ≤ S.faults reader.new.source.now }
     ensures cause { reader.old.progress.fault ≡ None → IsErrOf result WireFault.ReadFault → Rose (S.faults reader.old.source.now) (S.faults reader.new.source.now) }
+    ensures stays { StaysBut WireFault.ReadFault result (S.faults reader.old.source.now) (S.faults reader.new.source.now) }
     ensures reads { Gets (S.left reader.old.source.now) (S.left reader.new.source.now) reader.old.progress reader.new.progress result (λ v. IsWire (Struct v) reader.old.progress.room 12) (λ v slots. slots ≡ fold_fields F.set F.none v) (StopsWire reader.old.progress.room 12) }
 {
     reader.open()?;
@@ -98,6 +101,7 @@ pub fn read_struct<F: StructSink, S: Source>(
     ensures same_source { reader.new.source.ghost_name ≡ reader.old.source.ghost_name }
     ensures later { S.faults reader.old.source.now ≤ S.faults reader.new.source.now }
     ensures cause { reader.old.progress.fault ≡ None → IsErrOf result WireFault.ReadFault → Rose (S.faults reader.old.source.now) (S.faults reader.new.source.now) }
+    ensures stays { StaysBut WireFault.ReadFault result (S.faults reader.old.source.now) (S.faults reader.new.source.now) }
     ensures reads { Gets (S.left reader.old.source.now) (S.left reader.new.source.now) reader.old.progress reader.new.progress result (λ w. IsWire w reader.old.progress.room 12) (λ w got. got ≡ struct_of F.whole F.set F.none w) (StopsWire reader.old.progress.room 12) }
 {
     let slots = read_slots::<F, S>(alloc, reader)?;
@@ -112,6 +116,7 @@ pub fn read_whole<F: StructSink, S: Source>(
     ensures same_source { reader.new.source.ghost_name ≡ reader.old.source.ghost_name }
     ensures later { S.faults reader.old.source.now ≤ S.faults reader.new.source.now }
     ensures cause { reader.old.progress.fault ≡ None → IsErrOf result (StructFault.Wire WireFault.ReadFault) → Rose (S.faults reader.old.source.now) (S.faults reader.new.source.now) }
+    ensures stays { StaysBut (StructFault.Wire WireFault.ReadFault) result (S.faults reader.old.source.now) (S.faults reader.new.source.now) }
     ensures reads { Makes (S.left reader.old.source.now) (S.left reader.new.source.now) reader.old.progress reader.new.progress result (made_of F.whole F.set F.none) }
 {
     match read_slots::<F, S>(alloc, reader) {

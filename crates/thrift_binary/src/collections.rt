@@ -1,7 +1,7 @@
 //! Reading the heads of fields and collections off a source.
 
 ghost use Rattle.std.specs.Prelude.{◌≡◌, ◌≢◌, ◌<◌, ◌≤◌, ◌↔◌, None, length, IfOk, IfSome, IsErrOf, IsTrue, OnOk};
-ghost use Rattle.hms_outside.specs.Causes.{Rose};
+ghost use Rattle.hms_outside.specs.Causes.{Rose, StaysBut};
 ghost use Rattle.thrift_binary.specs.declared.limits.TheConstants.{COUNT_LIMIT, SESSION_END};
 ghost use Rattle.thrift_binary.specs.Taking.{Judges, Reads};
 ghost use Rattle.thrift_binary.specs.Wire.{IsCode, IsCount, IsElementType, IsField, IsFieldType, IsListHead, IsMapHead, IsNoCount, StopsField, StopsFieldType, StopsListHead, StopsMapHead};
@@ -16,6 +16,7 @@ impl<'a, S: Source> WireReader<'a, S> {
         ensures same_source { self.new.source.ghost_name ≡ self.old.source.ghost_name }
         ensures later { S.faults self.old.source.now ≤ S.faults self.new.source.now }
         ensures cause { self.old.progress.fault ≡ None → IsErrOf result WireFault.ReadFault → Rose (S.faults self.old.source.now) (S.faults self.new.source.now) }
+        ensures stays { StaysBut WireFault.ReadFault result (S.faults self.old.source.now) (S.faults self.new.source.now) }
         ensures reads { Reads (S.left self.old.source.now) (S.left self.new.source.now) self.old.progress self.new.progress result IsFieldType StopsFieldType }
         ensures unspent { OnOk result (self.new.progress.fault ≡ None) }
         ensures code { IfOk result (λ found. IfSome found IsCode) }
@@ -31,6 +32,7 @@ impl<'a, S: Source> WireReader<'a, S> {
         ensures same_source { self.new.source.ghost_name ≡ self.old.source.ghost_name }
         ensures later { S.faults self.old.source.now ≤ S.faults self.new.source.now }
         ensures cause { self.old.progress.fault ≡ None → IsErrOf result WireFault.ReadFault → Rose (S.faults self.old.source.now) (S.faults self.new.source.now) }
+        ensures stays { StaysBut WireFault.ReadFault result (S.faults self.old.source.now) (S.faults self.new.source.now) }
         ensures reads { Reads (S.left self.old.source.now) (S.left self.new.source.now) self.old.progress self.new.progress result IsField StopsField }
         ensures unspent { OnOk result (self.new.progress.fault ≡ None) }
         ensures code { IfOk result (λ found. IfSome found (λ field. IsCode field.0)) }
@@ -48,6 +50,7 @@ impl<'a, S: Source> WireReader<'a, S> {
         ensures same_source { self.new.source.ghost_name ≡ self.old.source.ghost_name }
         ensures later { S.faults self.old.source.now ≤ S.faults self.new.source.now }
         ensures cause { self.old.progress.fault ≡ None → IsErrOf result WireFault.ReadFault → Rose (S.faults self.old.source.now) (S.faults self.new.source.now) }
+        ensures stays { StaysBut WireFault.ReadFault result (S.faults self.old.source.now) (S.faults self.new.source.now) }
         ensures reads { Reads (S.left self.old.source.now) (S.left self.new.source.now) self.old.progress self.new.progress result (λ head. IsListHead head.0 head.1) StopsListHead }
         ensures unspent { OnOk result (self.new.progress.fault ≡ None) }
         ensures code { IfOk result (λ head. IsElementType head.1 head.0) }
@@ -64,6 +67,7 @@ impl<'a, S: Source> WireReader<'a, S> {
         ensures same_source { self.new.source.ghost_name ≡ self.old.source.ghost_name }
         ensures later { S.faults self.old.source.now ≤ S.faults self.new.source.now }
         ensures cause { self.old.progress.fault ≡ None → IsErrOf result WireFault.ReadFault → Rose (S.faults self.old.source.now) (S.faults self.new.source.now) }
+        ensures stays { StaysBut WireFault.ReadFault result (S.faults self.old.source.now) (S.faults self.new.source.now) }
         ensures reads { Reads (S.left self.old.source.now) (S.left self.new.source.now) self.old.progress self.new.progress result (λ head. IsMapHead head.0 head.1 head.2) StopsMapHead }
         ensures unspent { OnOk result (self.new.progress.fault ≡ None) }
         ensures keys { IfOk result (λ head. IsElementType head.2 head.0) }

@@ -2,7 +2,7 @@
 
 ghost use Rattle.std.specs.Prelude.{◌≡◌, ◌<◌, ◌≤◌, ◌↔◌, ℕ, None, length, get_or, IfErr, IfNone, IfOk, IfSome, IsErrOf, IsTrue, OnOk, OnSome};
 ghost use Rattle.std.specs.Io.KnownBytes.{IsAtEnd};
-ghost use Rattle.hms_outside.specs.Causes.{Rose};
+ghost use Rattle.hms_outside.specs.Causes.{Rose, StaysBut};
 ghost use Rattle.cat_values.specs.declared.text.TheConstants.{TEXT_LIMIT};
 ghost use Rattle.thrift_binary.specs.declared.limits.TheConstants.{SESSION_END};
 ghost use Rattle.thrift_binary.specs.Messages.{Asks, IsHeadRest, IsKind, IsKinded, IsName, IsNamed, IsOldName, IsOldRest, IsOpening, IsStrictWord, StopsHead, StopsHeadRest, StopsKind, StopsKinded, StopsMessage, StopsName, StopsNamed, StopsOldName, StopsOldRest, StopsOpening};
@@ -32,6 +32,7 @@ impl<'a, S: Source> WireReader<'a, S> {
         ensures same_source { self.new.source.ghost_name ≡ self.old.source.ghost_name }
         ensures later { S.faults self.old.source.now ≤ S.faults self.new.source.now }
         ensures cause { self.old.progress.fault ≡ None → IsErrOf result WireFault.ReadFault → Rose (S.faults self.old.source.now) (S.faults self.new.source.now) }
+        ensures stays { StaysBut WireFault.ReadFault result (S.faults self.old.source.now) (S.faults self.new.source.now) }
         ensures reads { Reads (S.left self.old.source.now) (S.left self.new.source.now) (fresh self.old.progress) self.new.progress result IsHeadOrEnd (StopsHead Asks) }
         ensures unspent { OnOk result (self.new.progress.fault ≡ None) }
         ensures end { IfOk result (λ head. IfNone head (IsAtEnd (S.left self.new.source.now))) }
@@ -50,6 +51,7 @@ impl<'a, S: Source> WireReader<'a, S> {
         ensures same_source { self.new.source.ghost_name ≡ self.old.source.ghost_name }
         ensures later { S.faults self.old.source.now ≤ S.faults self.new.source.now }
         ensures cause { self.old.progress.fault ≡ None → IsErrOf result WireFault.ReadFault → Rose (S.faults self.old.source.now) (S.faults self.new.source.now) }
+        ensures stays { StaysBut WireFault.ReadFault result (S.faults self.old.source.now) (S.faults self.new.source.now) }
         ensures reads { Reads (S.left self.old.source.now) (S.left self.new.source.now) (fresh self.old.progress) self.new.progress result IsMessageOrEnd (StopsMessage Asks) }
         ensures unspent { OnOk result (self.new.progress.fault ≡ None) }
         ensures end { IfOk result (λ head. IfNone head (IsAtEnd (S.left self.new.source.now))) }
@@ -70,6 +72,7 @@ impl<'a, S: Source> WireReader<'a, S> {
         ensures same_source { self.new.source.ghost_name ≡ self.old.source.ghost_name }
         ensures later { S.faults self.old.source.now ≤ S.faults self.new.source.now }
         ensures cause { self.old.progress.fault ≡ None → IsErrOf result WireFault.ReadFault → Rose (S.faults self.old.source.now) (S.faults self.new.source.now) }
+        ensures stays { StaysBut WireFault.ReadFault result (S.faults self.old.source.now) (S.faults self.new.source.now) }
         ensures reads { Reads (S.left self.old.source.now) (S.left self.new.source.now) self.old.progress self.new.progress result IsOpeningOrEnd (StopsOpening Asks) }
         ensures unspent { OnOk result (self.new.progress.fault ≡ None) }
         ensures end { IfOk result (λ found. IfNone found (IsAtEnd (S.left self.new.source.now))) }
@@ -89,6 +92,7 @@ impl<'a, S: Source> WireReader<'a, S> {
         ensures same_source { self.new.source.ghost_name ≡ self.old.source.ghost_name }
         ensures later { S.faults self.old.source.now ≤ S.faults self.new.source.now }
         ensures cause { self.old.progress.fault ≡ None → IsErrOf result WireFault.ReadFault → Rose (S.faults self.old.source.now) (S.faults self.new.source.now) }
+        ensures stays { StaysBut WireFault.ReadFault result (S.faults self.old.source.now) (S.faults self.new.source.now) }
         ensures reads { Reads (S.left self.old.source.now) (S.left self.new.source.now) self.old.progress self.new.progress result IsWordOrEnd (StopsShort 4) }
         ensures unspent { OnOk result (self.new.progress.fault ≡ None) }
         ensures end { IfOk result (λ word. IfNone word (IsAtEnd (S.left self.new.source.now))) }
@@ -118,6 +122,7 @@ impl<'a, S: Source> WireReader<'a, S> {
         ensures same_source { self.new.source.ghost_name ≡ self.old.source.ghost_name }
         ensures later { S.faults self.old.source.now ≤ S.faults self.new.source.now }
         ensures cause { self.old.progress.fault ≡ None → IsErrOf result WireFault.ReadFault → Rose (S.faults self.old.source.now) (S.faults self.new.source.now) }
+        ensures stays { StaysBut WireFault.ReadFault result (S.faults self.old.source.now) (S.faults self.new.source.now) }
         ensures reads { Reads (S.left self.old.source.now) (S.left self.new.source.now) self.old.progress self.new.progress result (IsHeadRest Asks (meant opening)) (StopsHeadRest Asks (meant opening)) }
         ensures unspent { OnOk result (self.new.progress.fault ≡ None) }
     {
@@ -139,6 +144,7 @@ impl<'a, S: Source> WireReader<'a, S> {
         ensures same_source { self.new.source.ghost_name ≡ self.old.source.ghost_name }
         ensures later { S.faults self.old.source.now ≤ S.faults self.new.source.now }
         ensures cause { self.old.progress.fault ≡ None → IsErrOf result WireFault.ReadFault → Rose (S.faults self.old.source.now) (S.faults self.new.source.now) }
+        ensures stays { StaysBut WireFault.ReadFault result (S.faults self.old.source.now) (S.faults self.new.source.now) }
         ensures reads { Reads (S.left self.old.source.now) (S.left self.new.source.now) self.old.progress self.new.progress result IsNamed StopsNamed }
         ensures unspent { OnOk result (self.new.progress.fault ≡ None) }
     {
@@ -152,6 +158,7 @@ impl<'a, S: Source> WireReader<'a, S> {
         ensures same_source { self.new.source.ghost_name ≡ self.old.source.ghost_name }
         ensures later { S.faults self.old.source.now ≤ S.faults self.new.source.now }
         ensures cause { self.old.progress.fault ≡ None → IsErrOf result WireFault.ReadFault → Rose (S.faults self.old.source.now) (S.faults self.new.source.now) }
+        ensures stays { StaysBut WireFault.ReadFault result (S.faults self.old.source.now) (S.faults self.new.source.now) }
         ensures reads { Reads (S.left self.old.source.now) (S.left self.new.source.now) self.old.progress self.new.progress result IsName StopsName }
         ensures unspent { OnOk result (self.new.progress.fault ≡ None) }
     {
@@ -169,6 +176,7 @@ impl<'a, S: Source> WireReader<'a, S> {
         ensures same_source { self.new.source.ghost_name ≡ self.old.source.ghost_name }
         ensures later { S.faults self.old.source.now ≤ S.faults self.new.source.now }
         ensures cause { self.old.progress.fault ≡ None → IsErrOf result WireFault.ReadFault → Rose (S.faults self.old.source.now) (S.faults self.new.source.now) }
+        ensures stays { StaysBut WireFault.ReadFault result (S.faults self.old.source.now) (S.faults self.new.source.now) }
         ensures reads { Reads (S.left self.old.source.now) (S.left self.new.source.now) self.old.progress self.new.progress result (IsOldRest Asks length) (StopsOldRest Asks length) }
         ensures unspent { OnOk result (self.new.progress.fault ≡ None) }
     {
@@ -188,6 +196,7 @@ impl<'a, S: Source> WireReader<'a, S> {
         ensures same_source { self.new.source.ghost_name ≡ self.old.source.ghost_name }
         ensures later { S.faults self.old.source.now ≤ S.faults self.new.source.now }
         ensures cause { self.old.progress.fault ≡ None → IsErrOf result WireFault.ReadFault → Rose (S.faults self.old.source.now) (S.faults self.new.source.now) }
+        ensures stays { StaysBut WireFault.ReadFault result (S.faults self.old.source.now) (S.faults self.new.source.now) }
         ensures reads { Reads (S.left self.old.source.now) (S.left self.new.source.now) self.old.progress self.new.progress result (IsOldName length) (StopsOldName length) }
         ensures unspent { OnOk result (self.new.progress.fault ≡ None) }
     {
@@ -204,6 +213,7 @@ impl<'a, S: Source> WireReader<'a, S> {
         ensures same_source { self.new.source.ghost_name ≡ self.old.source.ghost_name }
         ensures later { S.faults self.old.source.now ≤ S.faults self.new.source.now }
         ensures cause { self.old.progress.fault ≡ None → IsErrOf result WireFault.ReadFault → Rose (S.faults self.old.source.now) (S.faults self.new.source.now) }
+        ensures stays { StaysBut WireFault.ReadFault result (S.faults self.old.source.now) (S.faults self.new.source.now) }
         ensures reads { Reads (S.left self.old.source.now) (S.left self.new.source.now) self.old.progress self.new.progress result (IsKinded Asks) (StopsKinded Asks) }
         ensures unspent { OnOk result (self.new.progress.fault ≡ None) }
     {
@@ -217,6 +227,7 @@ impl<'a, S: Source> WireReader<'a, S> {
         ensures same_source { self.new.source.ghost_name ≡ self.old.source.ghost_name }
         ensures later { S.faults self.old.source.now ≤ S.faults self.new.source.now }
         ensures cause { self.old.progress.fault ≡ None → IsErrOf result WireFault.ReadFault → Rose (S.faults self.old.source.now) (S.faults self.new.source.now) }
+        ensures stays { StaysBut WireFault.ReadFault result (S.faults self.old.source.now) (S.faults self.new.source.now) }
         ensures reads { Reads (S.left self.old.source.now) (S.left self.new.source.now) self.old.progress self.new.progress result (IsKind Asks) (StopsKind Asks) }
         ensures unspent { OnOk result (self.new.progress.fault ≡ None) }
     {

@@ -1,7 +1,7 @@
 //! Reading values off a source: the reader, and how it takes bytes.
 
-ghost use Rattle.std.specs.Prelude.{◌≡◌, ◌<◌, ◌≤◌, ◌-◌, List, ℕ, [], None, Some, length, MatchResult, IfErr, IsErrOf, OnOk};
-ghost use Rattle.hms_outside.specs.Causes.{Rose};
+ghost use Rattle.std.specs.Prelude.{◌≡◌, ◌≢◌, ◌<◌, ◌≤◌, ◌-◌, List, ℕ, [], None, Some, length, MatchResult, IfErr, IsErrOf, OnOk};
+ghost use Rattle.hms_outside.specs.Causes.{Rose, StaysBut};
 ghost use Rattle.thrift_binary.specs.declared.limits.TheConstants.{DEPTH_LIMIT, SESSION_END};
 ghost use Rattle.thrift_binary.specs.Taking.{Cut, Opens, Reads, Tells, closed, fresh, start};
 ghost use Rattle.thrift_binary.specs.Wire.{StopsShort};
@@ -44,6 +44,7 @@ impl<'a, S: Source> WireReader<'a, S> {
         ensures same_source { self.new.source.ghost_name ≡ self.old.source.ghost_name }
         ensures later { S.faults self.old.source.now ≤ S.faults self.new.source.now }
         ensures cause { self.old.progress.fault ≡ None → IsErrOf result WireFault.ReadFault → Rose (S.faults self.old.source.now) (S.faults self.new.source.now) }
+        ensures stays { StaysBut WireFault.ReadFault result (S.faults self.old.source.now) (S.faults self.new.source.now) }
         ensures reads { Reads (S.left self.old.source.now) (S.left self.new.source.now) self.old.progress self.new.progress result (λ _ bytes. bytes ≡ buf.new) (StopsShort (length buf.old)) }
         ensures unspent { OnOk result (self.new.progress.fault ≡ None) }
     {
@@ -153,6 +154,7 @@ fn past_limit<S: Source>(source: &mut S, buf: &mut [u8], place: u64, limit: u64)
     ensures tells { (bytes : List ℕ) × (length bytes < length buf.old) × Tells (S.left source.old) (S.left source.new) place limit bytes Cut result }
     ensures later { S.faults source.old ≤ S.faults source.new }
     ensures cause { result ≡ WireFault.ReadFault → Rose (S.faults source.old) (S.faults source.new) }
+    ensures stays { result ≢ WireFault.ReadFault → S.faults source.new ≡ S.faults source.old }
 {
     let front = (limit - place) as usize;
     match fill(source, &mut buf[..front]) {
@@ -172,6 +174,7 @@ fn further_byte<S: Source>(source: &mut S, limit: u64) -> WireFault
     ensures tells { Tells (S.left source.old) (S.left source.new) limit limit [] Cut result }
     ensures later { S.faults source.old ≤ S.faults source.new }
     ensures cause { result ≡ WireFault.ReadFault → Rose (S.faults source.old) (S.faults source.new) }
+    ensures stays { result ≢ WireFault.ReadFault → S.faults source.new ≡ S.faults source.old }
 {
     let mut byte = [0; 1];
     match fill(source, &mut byte) {

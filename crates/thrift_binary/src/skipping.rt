@@ -1,7 +1,7 @@
 //! Passing values of any type.
 
 ghost use Rattle.std.specs.Prelude.{◌≡◌, ◌≤◌, ◌↔◌, List, ℕ, suc, None, length, IsErrOf, IsTrue, OnOk};
-ghost use Rattle.hms_outside.specs.Causes.{Rose};
+ghost use Rattle.hms_outside.specs.Causes.{Rose, StaysBut};
 ghost use Rattle.thrift_binary.specs.Taking.{Reads};
 ghost use Rattle.thrift_binary.specs.Tree.{Elements, Entries, Fields, Items, Pairs, Wire, elements_count, entries_count};
 ghost use Rattle.thrift_binary.specs.Wire.{AreElements, AreEntries, IsCode, IsElementType, IsNested, IsString, IsStruct, IsWire, StopsElements, StopsEntries, StopsFields, StopsListBy, StopsMapBy, StopsPlain, StopsShort, StopsString, StopsWire};
@@ -24,6 +24,7 @@ impl<'a, S: Source> WireReader<'a, S> {
         ensures same_source { self.new.source.ghost_name ≡ self.old.source.ghost_name }
         ensures later { S.faults self.old.source.now ≤ S.faults self.new.source.now }
         ensures cause { self.old.progress.fault ≡ None → IsErrOf result WireFault.ReadFault → Rose (S.faults self.old.source.now) (S.faults self.new.source.now) }
+        ensures stays { StaysBut WireFault.ReadFault result (S.faults self.old.source.now) (S.faults self.new.source.now) }
         ensures reads { Reads (S.left self.old.source.now) (S.left self.new.source.now) self.old.progress self.new.progress result (λ _ bytes. (w : Wire) × IsWire w self.old.progress.room ty bytes) (StopsWire self.old.progress.room ty) }
         ensures unspent { OnOk result (self.new.progress.fault ≡ None) }
     {
@@ -44,6 +45,7 @@ impl<'a, S: Source> WireReader<'a, S> {
         ensures same_source { self.new.source.ghost_name ≡ self.old.source.ghost_name }
         ensures later { S.faults self.old.source.now ≤ S.faults self.new.source.now }
         ensures cause { self.old.progress.fault ≡ None → IsErrOf result WireFault.ReadFault → Rose (S.faults self.old.source.now) (S.faults self.new.source.now) }
+        ensures stays { StaysBut WireFault.ReadFault result (S.faults self.old.source.now) (S.faults self.new.source.now) }
         ensures reads { Reads (S.left self.old.source.now) (S.left self.new.source.now) self.old.progress self.new.progress result (λ _ bytes. (w : Wire) × IsWire w (suc self.old.progress.room) ty bytes) (StopsWire (suc self.old.progress.room) ty) }
         ensures unspent { OnOk result (self.new.progress.fault ≡ None) }
     {
@@ -61,6 +63,7 @@ impl<'a, S: Source> WireReader<'a, S> {
         ensures same_source { self.new.source.ghost_name ≡ self.old.source.ghost_name }
         ensures later { S.faults self.old.source.now ≤ S.faults self.new.source.now }
         ensures cause { self.old.progress.fault ≡ None → IsErrOf result WireFault.ReadFault → Rose (S.faults self.old.source.now) (S.faults self.new.source.now) }
+        ensures stays { StaysBut WireFault.ReadFault result (S.faults self.old.source.now) (S.faults self.new.source.now) }
         ensures reads { Reads (S.left self.old.source.now) (S.left self.new.source.now) self.old.progress self.new.progress result (λ _ bytes. (v : Fields) × IsStruct self.old.progress.room v bytes) (StopsFields self.old.progress.room) }
         ensures unspent { OnOk result (self.new.progress.fault ≡ None) }
     {
@@ -76,6 +79,7 @@ impl<'a, S: Source> WireReader<'a, S> {
         ensures same_source { self.new.source.ghost_name ≡ self.old.source.ghost_name }
         ensures later { S.faults self.old.source.now ≤ S.faults self.new.source.now }
         ensures cause { self.old.progress.fault ≡ None → IsErrOf result WireFault.ReadFault → Rose (S.faults self.old.source.now) (S.faults self.new.source.now) }
+        ensures stays { StaysBut WireFault.ReadFault result (S.faults self.old.source.now) (S.faults self.new.source.now) }
         ensures reads { Reads (S.left self.old.source.now) (S.left self.new.source.now) self.old.progress self.new.progress result (λ _ bytes. (ty : ℕ) × (es : Elements) × IsWire (Items ty es) (suc self.old.progress.room) 15 bytes) (StopsListBy (StopsWire self.old.progress.room) self.old.progress.room) }
         ensures unspent { OnOk result (self.new.progress.fault ≡ None) }
     {
@@ -91,6 +95,7 @@ impl<'a, S: Source> WireReader<'a, S> {
         ensures same_source { self.new.source.ghost_name ≡ self.old.source.ghost_name }
         ensures later { S.faults self.old.source.now ≤ S.faults self.new.source.now }
         ensures cause { self.old.progress.fault ≡ None → IsErrOf result WireFault.ReadFault → Rose (S.faults self.old.source.now) (S.faults self.new.source.now) }
+        ensures stays { StaysBut WireFault.ReadFault result (S.faults self.old.source.now) (S.faults self.new.source.now) }
         ensures reads { Reads (S.left self.old.source.now) (S.left self.new.source.now) self.old.progress self.new.progress result (λ _ bytes. (es : Elements) × (elements_count es ≡ count) × AreElements es self.old.progress.room ty bytes) (StopsElements self.old.progress.room ty count) }
         ensures unspent { OnOk result (self.new.progress.fault ≡ None) }
     {
@@ -108,6 +113,7 @@ impl<'a, S: Source> WireReader<'a, S> {
         ensures same_source { self.new.source.ghost_name ≡ self.old.source.ghost_name }
         ensures later { S.faults self.old.source.now ≤ S.faults self.new.source.now }
         ensures cause { self.old.progress.fault ≡ None → IsErrOf result WireFault.ReadFault → Rose (S.faults self.old.source.now) (S.faults self.new.source.now) }
+        ensures stays { StaysBut WireFault.ReadFault result (S.faults self.old.source.now) (S.faults self.new.source.now) }
         ensures reads { Reads (S.left self.old.source.now) (S.left self.new.source.now) self.old.progress self.new.progress result (λ _ bytes. (key value : ℕ) × (ps : Entries) × IsWire (Pairs key value ps) (suc self.old.progress.room) 13 bytes) (StopsMapBy (StopsWire self.old.progress.room) self.old.progress.room) }
         ensures unspent { OnOk result (self.new.progress.fault ≡ None) }
     {
@@ -124,6 +130,7 @@ impl<'a, S: Source> WireReader<'a, S> {
         ensures same_source { self.new.source.ghost_name ≡ self.old.source.ghost_name }
         ensures later { S.faults self.old.source.now ≤ S.faults self.new.source.now }
         ensures cause { self.old.progress.fault ≡ None → IsErrOf result WireFault.ReadFault → Rose (S.faults self.old.source.now) (S.faults self.new.source.now) }
+        ensures stays { StaysBut WireFault.ReadFault result (S.faults self.old.source.now) (S.faults self.new.source.now) }
         ensures reads { Reads (S.left self.old.source.now) (S.left self.new.source.now) self.old.progress self.new.progress result (λ _ bytes. (ps : Entries) × (entries_count ps ≡ count) × AreEntries ps self.old.progress.room key value bytes) (StopsEntries self.old.progress.room key value count) }
         ensures unspent { OnOk result (self.new.progress.fault ≡ None) }
     {
@@ -143,6 +150,7 @@ impl<'a, S: Source> WireReader<'a, S> {
         ensures same_source { self.new.source.ghost_name ≡ self.old.source.ghost_name }
         ensures later { S.faults self.old.source.now ≤ S.faults self.new.source.now }
         ensures cause { self.old.progress.fault ≡ None → IsErrOf result WireFault.ReadFault → Rose (S.faults self.old.source.now) (S.faults self.new.source.now) }
+        ensures stays { StaysBut WireFault.ReadFault result (S.faults self.old.source.now) (S.faults self.new.source.now) }
         ensures reads { Reads (S.left self.old.source.now) (S.left self.new.source.now) self.old.progress self.new.progress result (λ _ bytes. (w : Wire) × ((depth : ℕ) → IsWire w depth ty bytes)) (StopsPlain ty) }
         ensures unspent { OnOk result (self.new.progress.fault ≡ None) }
     {
@@ -180,6 +188,7 @@ impl<'a, S: Source> WireReader<'a, S> {
         ensures same_source { self.new.source.ghost_name ≡ self.old.source.ghost_name }
         ensures later { S.faults self.old.source.now ≤ S.faults self.new.source.now }
         ensures cause { self.old.progress.fault ≡ None → IsErrOf result WireFault.ReadFault → Rose (S.faults self.old.source.now) (S.faults self.new.source.now) }
+        ensures stays { StaysBut WireFault.ReadFault result (S.faults self.old.source.now) (S.faults self.new.source.now) }
         ensures reads { Reads (S.left self.old.source.now) (S.left self.new.source.now) self.old.progress self.new.progress result (λ _ bytes. (body : List ℕ) × IsString body bytes) StopsString }
         ensures unspent { OnOk result (self.new.progress.fault ≡ None) }
     {
@@ -193,6 +202,7 @@ impl<'a, S: Source> WireReader<'a, S> {
         ensures same_source { self.new.source.ghost_name ≡ self.old.source.ghost_name }
         ensures later { S.faults self.old.source.now ≤ S.faults self.new.source.now }
         ensures cause { self.old.progress.fault ≡ None → IsErrOf result WireFault.ReadFault → Rose (S.faults self.old.source.now) (S.faults self.new.source.now) }
+        ensures stays { StaysBut WireFault.ReadFault result (S.faults self.old.source.now) (S.faults self.new.source.now) }
         ensures reads { Reads (S.left self.old.source.now) (S.left self.new.source.now) self.old.progress self.new.progress result (λ _ bytes. length bytes ≡ n) (StopsShort n) }
         ensures unspent { OnOk result (self.new.progress.fault ≡ None) }
     {

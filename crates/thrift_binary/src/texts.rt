@@ -1,7 +1,7 @@
 //! Reading texts off a source.
 
 ghost use Rattle.std.specs.Prelude.{◌≡◌, ◌<◌, ◌≤◌, ◌-◌, ◌++◌, None, length, vec_len, IfOk, IsErrOf, OnOk};
-ghost use Rattle.hms_outside.specs.Causes.{Rose};
+ghost use Rattle.hms_outside.specs.Causes.{Rose, StaysBut};
 ghost use Rattle.cat_values.specs.declared.text.TheConstants.{TEXT_LIMIT};
 ghost use Rattle.thrift_binary.specs.Taking.{Judges, Reads};
 ghost use Rattle.thrift_binary.specs.Wire.{IsBody, IsLength, IsString, IsText, StopsLength, StopsShort, StopsString};
@@ -21,6 +21,7 @@ impl<'a, S: Source> WireReader<'a, S> {
         ensures same_source { self.new.source.ghost_name ≡ self.old.source.ghost_name }
         ensures later { S.faults self.old.source.now ≤ S.faults self.new.source.now }
         ensures cause { self.old.progress.fault ≡ None → IsErrOf result WireFault.ReadFault → Rose (S.faults self.old.source.now) (S.faults self.new.source.now) }
+        ensures stays { StaysBut WireFault.ReadFault result (S.faults self.old.source.now) (S.faults self.new.source.now) }
         ensures reads { Reads (S.left self.old.source.now) (S.left self.new.source.now) self.old.progress self.new.progress result IsLength StopsLength }
         ensures unspent { OnOk result (self.new.progress.fault ≡ None) }
         ensures bounded { IfOk result (λ n. n ≤ TEXT_LIMIT) }
@@ -39,6 +40,7 @@ impl<'a, S: Source> WireReader<'a, S> {
         ensures same_source { self.new.source.ghost_name ≡ self.old.source.ghost_name }
         ensures later { S.faults self.old.source.now ≤ S.faults self.new.source.now }
         ensures cause { self.old.progress.fault ≡ None → IsErrOf result WireFault.ReadFault → Rose (S.faults self.old.source.now) (S.faults self.new.source.now) }
+        ensures stays { StaysBut WireFault.ReadFault result (S.faults self.old.source.now) (S.faults self.new.source.now) }
         ensures reads { Reads (S.left self.old.source.now) (S.left self.new.source.now) self.old.progress self.new.progress result (λ _ taken. bytes.new.items ≡ bytes.old.items ++ taken) (StopsShort (n - vec_len bytes.old)) }
         ensures unspent { OnOk result (self.new.progress.fault ≡ None) }
         ensures forward { OnOk result (vec_len bytes.old < vec_len bytes.new) }
@@ -59,6 +61,7 @@ impl<'a, S: Source> WireReader<'a, S> {
         ensures same_source { self.new.source.ghost_name ≡ self.old.source.ghost_name }
         ensures later { S.faults self.old.source.now ≤ S.faults self.new.source.now }
         ensures cause { self.old.progress.fault ≡ None → IsErrOf result WireFault.ReadFault → Rose (S.faults self.old.source.now) (S.faults self.new.source.now) }
+        ensures stays { StaysBut WireFault.ReadFault result (S.faults self.old.source.now) (S.faults self.new.source.now) }
         ensures reads { Reads (S.left self.old.source.now) (S.left self.new.source.now) self.old.progress self.new.progress result (λ v. IsBody n v.items) (StopsShort n) }
         ensures unspent { OnOk result (self.new.progress.fault ≡ None) }
     {
@@ -74,6 +77,7 @@ impl<'a, S: Source> WireReader<'a, S> {
         ensures same_source { self.new.source.ghost_name ≡ self.old.source.ghost_name }
         ensures later { S.faults self.old.source.now ≤ S.faults self.new.source.now }
         ensures cause { self.old.progress.fault ≡ None → IsErrOf result WireFault.ReadFault → Rose (S.faults self.old.source.now) (S.faults self.new.source.now) }
+        ensures stays { StaysBut WireFault.ReadFault result (S.faults self.old.source.now) (S.faults self.new.source.now) }
         ensures reads { Reads (S.left self.old.source.now) (S.left self.new.source.now) self.old.progress self.new.progress result (λ v. IsString v.items) StopsString }
         ensures unspent { OnOk result (self.new.progress.fault ≡ None) }
         ensures bounded { IfOk result (λ v. vec_len v ≤ TEXT_LIMIT) }
@@ -87,6 +91,7 @@ impl<'a, S: Source> WireReader<'a, S> {
         ensures same_source { self.new.source.ghost_name ≡ self.old.source.ghost_name }
         ensures later { S.faults self.old.source.now ≤ S.faults self.new.source.now }
         ensures cause { self.old.progress.fault ≡ None → IsErrOf result WireFault.ReadFault → Rose (S.faults self.old.source.now) (S.faults self.new.source.now) }
+        ensures stays { StaysBut WireFault.ReadFault result (S.faults self.old.source.now) (S.faults self.new.source.now) }
         ensures reads { Reads (S.left self.old.source.now) (S.left self.new.source.now) self.old.progress self.new.progress result IsText StopsString }
         ensures unspent { OnOk result (self.new.progress.fault ≡ None) }
     {

@@ -1,7 +1,7 @@
 //! Gathering one message in memory, and sending it.
 
 ghost use Rattle.std.specs.Prelude.{◌≡◌, ◌<◌, ◌≤◌, ◌^◌, ◌++◌, [], ◌∷◌, ℕ, pos, take, IsErrOf, OnErr, OnOk};
-ghost use Rattle.hms_outside.specs.Causes.{Rose};
+ghost use Rattle.hms_outside.specs.Causes.{Rose, StaysBut};
 ghost use Rattle.hms_outside.specs.Told.{Goes, Grew, Sent};
 ghost use Rattle.thrift_binary.specs.Sending.{Gathers};
 ghost use Rattle.thrift_binary.specs.Strict.{field_bytes, flag_bytes, head_bytes, list_bytes, map_bytes};
@@ -176,6 +176,7 @@ impl WireWriter {
         ensures stays { OnErr result (self.new ≡ self.old) }
         ensures later { K.faults sink.old ≤ K.faults sink.new }
         ensures cause { IsErrOf result SendFault.WriteFault → Rose (K.faults sink.old) (K.faults sink.new) }
+        ensures sink_stays { StaysBut SendFault.WriteFault result (K.faults sink.old) (K.faults sink.new) }
     {
         match send_all(sink, &self.out) {
             Ok(()) => {

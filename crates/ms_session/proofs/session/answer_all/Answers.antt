@@ -2,14 +2,15 @@ use Rattle.std.proofs.Common.{ap, arith, inr, refl, rules, ◌∙◌}
 use Rattle.desk.proofs.Additions.{adds_as, adds_both, adds_none, adds_weaker}
 use Rattle.thrift_binary.specs.declared.progress.Progress.{Progress}
 use Rattle.thrift_binary.proofs.Reading.{Took-unspent}
+use Rattle.ms_session.specs.Session.{end_of_fault}
 use Rattle.ms_session.proofs.Sessions.{came, faulted, nothing_yet, one_more, one_part, shut}
 use Rattle.ms_session.proofs.session.answer_all.Goals as goal
 
 pub loop-request-init : goal.loop-request-init
 loop-request-init g c = record {
   same_source = search rules;
-  read = omega arith;
-  write = omega arith;
+  read = refl;
+  write = refl;
   clock = omega arith;
   empty = search rules;
   unspent = ap (λ (p : Progress). p.fault) c.requires;
@@ -37,8 +38,8 @@ returns-in-Err-NoMemory-clause-session g c =
 pub loop-request-preserved : goal.loop-request-preserved
 loop-request-preserved g c = record {
   same_source = search rules;
-  read = omega (arith, c.next_request.ensures.later);
-  write = omega (arith, c.answer.ensures.later);
+  read = c.in-Ok-Some.ensures.stays ∙ c.loop-request.invariant.read;
+  write = c.in-Ok.ensures.sink_stays ∙ c.loop-request.invariant.write;
   clock = omega (arith, c.answer.ensures.clock_later);
   empty = c.in-Ok.ensures.emptied;
   unspent = Took-unspent _ _ _ _ _ (came _ _ _ _ c.in-Ok-Some.request (rw c.in-Ok-Some.field-0-is at c.in-Ok-Some.ensures.reads));
@@ -53,3 +54,6 @@ loop-request-preserved g c = record {
 pub returns-then-is_shutdown-clause-session : goal.returns-then-is_shutdown-clause-session
 returns-then-is_shutdown-clause-session g c =
     adds_weaker _ _ _ _ _ _ (λ own so_far. shut _ _ _ c.loop-request.reader.progress _ own c.in-Ok-Some.request so_far (came _ _ _ _ c.in-Ok-Some.request (rw c.in-Ok-Some.field-0-is at c.in-Ok-Some.ensures.reads)) (c.is_shutdown.ensures.0 c.if-is_shutdown.true)) c.loop-request.invariant.so_far
+
+pub returns-in-Err-clause-source_stays : goal.returns-in-Err-clause-source_stays
+returns-in-Err-clause-source_stays g c = λ other. c.in-Err.ensures.stays (λ is. other (c.end_of.ensures ∙ ap end_of_fault is)) ∙ c.loop-request.invariant.read

@@ -8,8 +8,8 @@ use Rattle.ms_session.proofs.session.answer_all.Given as goal
 abbrev pub invariant-loop-request : goal.invariant-loop-request
 invariant-loop-request g l = record {
   same_source : l.reader.source.ghost_name ≡ l.initial.reader.source.ghost_name;
-  read : g.S.Source.faults l.initial.reader.source.now ≤ g.S.Source.faults l.reader.source.now;
-  write : g.K.Sink.faults l.initial.sink ≤ g.K.Sink.faults l.sink;
+  read : g.S.Source.faults l.reader.source.now ≡ g.S.Source.faults l.initial.reader.source.now;
+  write : g.K.Sink.faults l.sink ≡ g.K.Sink.faults l.initial.sink;
   clock : g.C.Clock.faults l.initial.clock ≤ g.C.Clock.faults l.clock;
   empty : l.writer ≡ [];
   unspent : l.reader.progress.fault ≡ None;

@@ -10,7 +10,7 @@ use Rattle.ms_structs.proofs.ElementsSoFar.{SomeElements, elements_none, element
 use Rattle.ms_structs.proofs.lists.read_items.Goals as goal
 
 pub loop-init : goal.loop-init
-loop-init g c = record { same_source = refl; later = omega arith; so_far = elements_none _ _ _ _ c.requires.unspent c.args.reader.now.within (ap Some c.new.ensures) }
+loop-init g c = record { same_source = refl; stays = refl; so_far = elements_none _ _ _ _ c.requires.unspent c.args.reader.now.within (ap Some c.new.ensures) }
 
 pub returns-in_err-item-clause-reads : goal.returns-in_err-item-clause-reads
 returns-in_err-item-clause-reads g c =
@@ -22,7 +22,7 @@ loop-preserved g c =
     let add = λ (so : Option (List g.row.T.Denot)) (w : Wire). with_item so (typed g.T.FromWire.CODE g.T.FromWire.means c.args.ty w) in
     record {
       same_source = search rules;
-      later = omega (arith, c.read_typed.ensures.later);
+      stays = c.in_ok-item.ensures.stays ∙ c.loop.invariant.stays;
       so_far = elements_more _ _ _ _ _ _ c.args.ty c.loop.counter (c.loop.counter + 1) _ _ _ (omega arith) (λ es w so says. c.in-Ok.ensures ∙ ap (λ x. with_item x c.in_ok-item.item) so ∙ ap (λ x. with_item (fold_elements add (Some []) es) x) says ∙ sym (fold_push_element add (Some []) es w))
           c.loop.invariant.so_far c.in_ok-item.ensures.reads;
     }

@@ -1,4 +1,4 @@
-use Rattle.std.proofs.Common.{◌≡◌, refl, ap, arith, rules, ◌+◌}
+use Rattle.std.proofs.Common.{◌≡◌, ◌∙◌, refl, ap, arith, rules, ◌+◌}
 use Rattle.std.specs.Bool.{⊤}
 use Rattle.std.proofs.lemmas.Result.{err_from_is_err_and}
 use Rattle.ms_structs.specs.Slots.{typed}
@@ -7,7 +7,7 @@ use Rattle.ms_structs.proofs.EntriesSoFar.{entries_none, entries_more, entries_s
 use Rattle.ms_structs.proofs.maps.read_pairs.Goals as goal
 
 pub loop-init : goal.loop-init
-loop-init g c = record { same_source = refl; later = omega arith; so_far = entries_none _ _ _ _ _ c.requires.unspent c.args.reader.now.within (no_pairs_is _ c.new.ensures.pairs c.new.ensures.spoiled) }
+loop-init g c = record { same_source = refl; stays = refl; so_far = entries_none _ _ _ _ _ c.requires.unspent c.args.reader.now.within (no_pairs_is _ c.new.ensures.pairs c.new.ensures.spoiled) }
 
 pub returns-in_err-key-clause-reads : goal.returns-in_err-key-clause-reads
 returns-in_err-key-clause-reads g c =
@@ -17,7 +17,7 @@ returns-in_err-key-clause-reads g c =
 pub loop-preserved : goal.loop-preserved
 loop-preserved g c = record {
   same_source = search rules;
-  later = omega (arith, c.read_pair.ensures.later);
+  stays = c.in_ok-key.ensures.stays ∙ c.loop.invariant.stays;
   so_far = entries_more _ _ _ _ _ _ c.args.key_type c.args.value_type c.loop.counter (c.loop.counter + 1) _ _ (λ pair. (c.in_ok-key.key ≡ typed g.K.FromWire.CODE g.K.FromWire.means c.args.key_type pair.0) × (c.in_ok-key.value ≡ typed g.V.FromWire.CODE g.V.FromWire.means c.args.value_type pair.1)) (omega arith) (λ ps k w so says. pair_step g.K.Ord.cmp (typed g.K.FromWire.CODE g.K.FromWire.means c.args.key_type) (typed g.V.FromWire.CODE g.V.FromWire.means c.args.value_type) ps k w _ _ _ _ c.in-Ok.ensures so says.0 says.1)
       c.loop.invariant.so_far c.in_ok-key.ensures.reads;
 }

@@ -6,7 +6,7 @@ use Rattle.ms_structs.proofs.FieldsSoFar.{fields_none, fields_more, fields_end, 
 use Rattle.ms_structs.proofs.structs.read_fields.Goals as goal
 
 pub loop-ty-init : goal.loop-ty-init
-loop-ty-init g c = record { same_source = refl; later = omega arith; so_far = fields_none _ _ _ c.requires c.args.reader.now.within refl }
+loop-ty-init g c = record { same_source = refl; stays = refl; so_far = fields_none _ _ _ c.requires c.args.reader.now.within refl }
 
 pub returns-in_err-field-clause-reads : goal.returns-in_err-field-clause-reads
 returns-in_err-field-clause-reads g c =
@@ -25,7 +25,7 @@ loop-ty-preserved g c =
     let same : to_z w16 (of_z w16 c.in-Some.id) ≡ c.in-Some.id = to_z-of_z w16 c.in-Some.id fits in
     record {
       same_source = search rules;
-      later = omega (arith, c.field.ensures.later, c.take.ensures.later);
+      stays = c.in_ok-take-in-Some.ensures.stays ∙ c.in_ok-field.ensures.stays ∙ c.loop-ty.invariant.stays;
       so_far = fields_more _ _ _ _ _ _ _ _ _ _ _ c.in-Some.ty c.in-Some.id (λ v w so says. says ∙ ap (λ i. g.F.FieldSink.set c.loop-ty.slots c.in-Some.ty i w) same ∙ ap (λ x. g.F.FieldSink.set x c.in-Some.ty c.in-Some.id w) so ∙ sym (fold_pushed g.F.FieldSink.set _ v c.in-Some.ty c.in-Some.id w))
           c.loop-ty.invariant.so_far (head_is _ _ _ _ _ (Some (c.in-Some.ty, c.in-Some.id)) c.in-Some.is c.in_ok-field.ensures.reads) c.in_ok-take-in-Some.ensures.reads;
     }

@@ -1,4 +1,4 @@
-use Rattle.std.proofs.Common.{rules, refl, arith, inl}
+use Rattle.std.proofs.Common.{◌∙◌, rules, refl, arith, inl}
 use Rattle.std.proofs.lemmas.Result.{err_from_is_err_and}
 use Rattle.std.specs.Bool.{⊤}
 use Rattle.thrift_binary.specs.Wire.{StopsListBy, StopsMapBy, StopsWire}
@@ -19,7 +19,7 @@ skip-returns-clause-reads g t c = plain_read c.args.self.now.progress.room c.arg
 pub skip_elements-loop-done-init : goal.skip_elements-loop-done-init
 skip_elements-loop-done-init g t c = record {
   same_source = refl;
-  later = omega arith;
+  stays = refl;
   within = omega arith;
   so_far = elements_none c.args.self.now.progress.room c.args.ty _ _ _ c.requires.unspent c.args.self.now.within tt;
 }
@@ -32,7 +32,7 @@ skip_elements-returns-in_err-skip-clause-reads g t c =
 pub skip_elements-loop-done-preserved : goal.skip_elements-loop-done-preserved
 skip_elements-loop-done-preserved g t c = record {
   same_source = search rules;
-  later = omega (arith, c.in_ok-skip.ensures.later, c.loop-done.invariant.later);
+  stays = c.in_ok-skip.ensures.stays ∙ c.loop-done.invariant.stays;
   within = omega arith;
   so_far = pass_element c.args.self.now.progress.room c.args.ty c.loop-done.done _ _ _ _ _ _ refl c.loop-done.invariant.so_far c.in_ok-skip.ensures.reads;
 }
@@ -43,7 +43,7 @@ skip_elements-returns-clause-reads g t c = elements_passed c.args.self.now.progr
 pub skip_entries-loop-done-init : goal.skip_entries-loop-done-init
 skip_entries-loop-done-init g t c = record {
   same_source = refl;
-  later = omega arith;
+  stays = refl;
   within = omega arith;
   so_far = entries_none c.args.self.now.progress.room c.args.key c.args.value _ _ _ c.requires.unspent c.args.self.now.within tt;
 }
@@ -61,7 +61,7 @@ skip_entries-returns-in_err-skip-2-clause-reads g t c =
 pub skip_entries-loop-done-preserved : goal.skip_entries-loop-done-preserved
 skip_entries-loop-done-preserved g t c = record {
   same_source = search rules;
-  later = omega (arith, c.in_ok-skip.ensures.later, c.in_ok-skip-2.ensures.later, c.loop-done.invariant.later);
+  stays = c.in_ok-skip-2.ensures.stays ∙ c.in_ok-skip.ensures.stays ∙ c.loop-done.invariant.stays;
   within = omega arith;
   so_far = pass_entry c.args.self.now.progress.room c.args.key c.args.value c.loop-done.done _ _ _ _ _ _ _ _ refl c.loop-done.invariant.so_far c.in_ok-skip.ensures.reads c.in_ok-skip-2.ensures.reads;
 }
@@ -72,7 +72,7 @@ skip_entries-returns-clause-reads g t c = entries_passed c.args.self.now.progres
 pub skip_fields-loop-ty-init : goal.skip_fields-loop-ty-init
 skip_fields-loop-ty-init g t c = record {
   same_source = refl;
-  later = omega arith;
+  stays = refl;
   so_far = fields_none c.args.self.now.progress.room _ _ _ c.requires.unspent c.args.self.now.within tt;
 }
 
@@ -93,7 +93,7 @@ skip_fields-returns-in_err-ty-clause-reads g t c =
 pub skip_fields-loop-ty-preserved : goal.skip_fields-loop-ty-preserved
 skip_fields-loop-ty-preserved g t c = record {
   same_source = search rules;
-  later = omega (arith, c.in_ok-ty.ensures.later, c.in_ok-skip.ensures.later, c.loop-ty.invariant.later);
+  stays = c.in_ok-skip.ensures.stays ∙ c.in_ok-ty.ensures.stays ∙ c.loop-ty.invariant.stays;
   so_far = pass_field c.args.self.now.progress.room c.in-Some.ty _ _ _ _ _ _ _ _ _ refl c.loop-ty.invariant.so_far (rw c.in-Some.is at c.in_ok-ty.ensures.reads) c.in_ok-skip.ensures.reads;
 }
 

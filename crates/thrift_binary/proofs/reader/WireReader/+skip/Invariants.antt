@@ -30,7 +30,7 @@ decreases-skip_fields-loop-ty g l = l.self.progress.limit - l.self.progress.plac
 abbrev pub invariant-skip_fields-loop-ty : goal.invariant-skip_fields-loop-ty
 invariant-skip_fields-loop-ty g l = record {
   same_source : l.self.source.ghost_name ≡ l.initial.self.source.ghost_name;
-  later : g.S.Source.faults l.initial.self.source.now ≤ g.S.Source.faults l.self.source.now;
+  stays : g.S.Source.faults l.self.source.now ≡ g.S.Source.faults l.initial.self.source.now;
   so_far : Took (g.S.Source.left l.initial.self.source.now) (g.S.Source.left l.self.source.now) l.initial.self.progress l.self.progress (SomeFields l.initial.self.progress.room);
 }
 
@@ -40,7 +40,7 @@ decreases-skip_elements-loop-done g l = l.count - l.done
 abbrev pub invariant-skip_elements-loop-done : goal.invariant-skip_elements-loop-done
 invariant-skip_elements-loop-done g l = record {
   same_source : l.self.source.ghost_name ≡ l.initial.self.source.ghost_name;
-  later : g.S.Source.faults l.initial.self.source.now ≤ g.S.Source.faults l.self.source.now;
+  stays : g.S.Source.faults l.self.source.now ≡ g.S.Source.faults l.initial.self.source.now;
   within : l.done ≤ l.count;
   so_far : Took (g.S.Source.left l.initial.self.source.now) (g.S.Source.left l.self.source.now) l.initial.self.progress l.self.progress (SomeElements l.initial.self.progress.room l.ty l.done);
 }
@@ -51,7 +51,7 @@ decreases-skip_entries-loop-done g l = l.count - l.done
 abbrev pub invariant-skip_entries-loop-done : goal.invariant-skip_entries-loop-done
 invariant-skip_entries-loop-done g l = record {
   same_source : l.self.source.ghost_name ≡ l.initial.self.source.ghost_name;
-  later : g.S.Source.faults l.initial.self.source.now ≤ g.S.Source.faults l.self.source.now;
+  stays : g.S.Source.faults l.self.source.now ≡ g.S.Source.faults l.initial.self.source.now;
   within : l.done ≤ l.count;
   so_far : Took (g.S.Source.left l.initial.self.source.now) (g.S.Source.left l.self.source.now) l.initial.self.progress l.self.progress (SomeEntries l.initial.self.progress.room l.key l.value l.done);
 }

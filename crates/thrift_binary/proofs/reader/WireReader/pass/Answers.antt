@@ -1,4 +1,4 @@
-use Rattle.std.proofs.Common.{arith, rules, length, take, drop, length-take-le, length-append}
+use Rattle.std.proofs.Common.{◌∙◌, arith, rules, length, take, drop, length-take-le, length-append}
 use Rattle.std.proofs.lemmas.List.{length-drop}
 use Rattle.std.proofs.lemmas.Result.{err_from_is_err_and}
 use Rattle.thrift_binary.proofs.Passing.{pass_short, pass_more}
@@ -15,7 +15,7 @@ loop-left-preserved g c =
     let got = length-take-le c.min-part.result c.loop-left.buf (omega (arith, c.loop-left.invariant.size)) in
     record {
       same_source = search rules;
-      later = omega (arith, c.in_ok-exact.ensures.later, c.loop-left.invariant.later);
+      stays = c.in_ok-exact.ensures.stays ∙ c.loop-left.invariant.stays;
       within = omega (arith, c.loop-left.invariant.within);
       size = omega (arith, c.loop-left.invariant.size, got, length-append c.exact-in-loop-left.new.buf (drop c.min-part.result c.loop-left.buf), length-drop c.min-part.result c.loop-left.buf);
       so_far = pass_more c.args.n c.loop-left.left c.min-part.result c.exact-in-loop-left.new.buf _ _ _ _ _ _ (omega arith) (omega (arith, got)) c.loop-left.invariant.so_far c.in_ok-exact.ensures.reads;
