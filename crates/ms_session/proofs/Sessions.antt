@@ -2,7 +2,6 @@
 use Rattle.std.proofs.Common.{◌≡◌, ℕ, ◌+◌, ◌<◌, ◌≤◌, ◌⊎◌, List, [], ◌∷◌, ◌++◌, length, Option, Some, None, Err, refl, sym, ap, ◌∙◌, subst, arith, inl, inr, length-append}
 use Rattle.std.specs.Io.KnownBytes.{Consumes, IsAtEnd}
 use Rattle.std.proofs.KnownBytes.{Consumes-nil, Consumes-trans}
-use Rattle.std.proofs.lemmas.List.{append-nil}
 use Rattle.hms_outside.specs.Told.{Goes, Held, Same}
 use Rattle.hms_outside.proofs.SinkLemmas.{Goes-then}
 use Rattle.cat_types.specs.declared.replies.Reply.{Reply}
@@ -156,11 +155,11 @@ stopped old met left p xs front stop (Truncated at) so_far unspent inside stops 
     served old met left p.place xs front _ so_far t.1
     (((λ none. absurd (omega (arith, some, t.4, ap length none))), subst (λ (s : Stop). StopsMessage Asks s front) t.0 stops, omega (arith, t.3), t.4), t.2)
 stopped old met left p xs front stop (BadWire code at) so_far unspent inside stops t =
-    served old met left p.place xs front _ so_far t.2 (front, [], t.0, sym (append-nil front), subst (λ (s : Stop). StopsMessage Asks s front) t.1 stops, omega (arith, t.3), t.4)
+    served old met left p.place xs front _ so_far t.2 (t.0, subst (λ (s : Stop). StopsMessage Asks s front) t.1 stops, omega (arith, t.3), t.4)
 stopped old met left p xs front stop (TooLarge at) so_far unspent inside stops (inl t) =
-    served old met left p.place xs front _ so_far t.2 (inl (front, [], t.0, sym (append-nil front), subst (λ (s : Stop). StopsMessage Asks s front) t.1 stops, omega (arith, t.3), t.4))
+    served old met left p.place xs front _ so_far t.2 (inl (t.0, subst (λ (s : Stop). StopsMessage Asks s front) t.1 stops, omega (arith, t.3), t.4))
 stopped old met left p xs front stop (TooLarge at) so_far unspent inside stops (inr t) =
-    served old met left p.place xs (front ++ t.0 ∷ []) _ so_far t.2 (inr (front, [], t.0, refl, subst (λ (s : Stop). StopsMessage Asks s front) t.1 stops, omega (arith, t.3), omega (arith, t.3, t.4)))
+    served old met left p.place xs (front ++ t.0 ∷ []) _ so_far t.2 (inr (front, t.0, refl, subst (λ (s : Stop). StopsMessage Asks s front) t.1 stops, omega (arith, t.3), omega (arith, t.3, t.4)))
 stopped old met left p xs front stop ReadFault so_far unspent inside stops t =
     served old met left p.place xs front _ so_far t.1 (subst (λ (s : Stop). StopsMessage Asks s front) t.0 stops, omega (arith, t.2))
 stopped old met left p xs front stop NoMemory so_far unspent inside stops t =

@@ -1,5 +1,5 @@
 -- A session over a text that is known.
-use Rattle.std.proofs.Common.{◌≡◌, ℕ, ◌+◌, ◌≤◌, List, [], ◌∷◌, ◌++◌, length, map, Option, Some, None, refl, sym, ap, ◌∙◌, subst, append_assoc, arith}
+use Rattle.std.proofs.Common.{◌≡◌, ℕ, ◌+◌, ◌≤◌, List, [], ◌∷◌, ◌++◌, length, map, Option, Some, None, refl, sym, ap, ◌∙◌, subst, append_assoc, arith, inl, inr}
 use Rattle.std.specs.Io.KnownBytes.{Consumes, IsAtEnd}
 use Rattle.std.proofs.lemmas.List.{append-nil}
 use Rattle.desk.specs.History.{Entry}
@@ -8,7 +8,7 @@ use Rattle.thrift_binary.specs.Laws.{IsFinal}
 use Rattle.thrift_binary.specs.Taking.{room_at}
 use Rattle.thrift_binary.proofs.OneText.{cut_anywhere, ends_at_boundary, one_more, reads_one_way, stays_so}
 use Rattle.ms_session.specs.Laws.{AllAnswered, EndsWith, WholeTextsAreServed}
-use Rattle.ms_session.specs.Session.{IsShutdown, Met, Served}
+use Rattle.ms_session.specs.Session.{IsBad, IsLarge, IsShutdown, Met, Served}
 use Rattle.ms_session.specs.Turns.{Turn}
 use Rattle.ms_session.specs.declared.end.End.TheVariants as ended
 
@@ -67,12 +67,20 @@ at_shutdown old new entries text messages ending is spells s =
     let cut = cut_anywhere Asks 0 (s.taken ++ s.rest) d.0 (before ++ last ∷ []) messages Boundary ending (ends_at_boundary Asks 0 (before ++ last ∷ []) (s.taken ++ s.rest) are) (subst (λ (t : List ℕ). Spells t messages ending) d.2 spells) in
     (before, last, cut.0, cut.1 ∙ append_assoc before (last ∷ []) cut.0, s.behind.2, answered old new entries before IsShutdown s refl)
 
+-- what was judged ends the text, whatever follows it
+bad_ends : (code place at : ℕ) (rest : List ℕ) → IsBad code place at rest → Ends Asks at rest (Bad_at code place)
+bad_ends code place at rest h = (rest, [], h.0, sym (append-nil rest), h.1, h.2, h.3)
+
+large_ends : (place at : ℕ) (rest : List ℕ) → IsLarge place at rest → Ends Asks at rest (Large_at place)
+large_ends place at rest (inl h) = inl (rest, [], h.0, sym (append-nil rest), h.1, h.2, h.3)
+large_ends place at rest (inr h) = inr (h.0, [], h.1, h.2, h.3, h.4, h.5)
+
 pub served : WholeTextsAreServed
 served old new entries ended.Done text messages ending is spells s = to_the_end old new entries text messages ending Boundary _ s is spells s.behind.0 s.behind.1
 served old new entries ended.Shutdown text messages ending is spells s = at_shutdown old new entries text messages ending is spells s
 served old new entries (ended.Truncated place) text messages ending is spells s = to_the_end old new entries text messages ending (Truncated place) _ s is spells s.behind.0 s.behind.1
-served old new entries (ended.BadWire code place) text messages ending is spells s = for_good old new entries text messages ending (Bad_at code place) _ s is spells s.behind tt
-served old new entries (ended.TooLarge place) text messages ending is spells s = for_good old new entries text messages ending (Large_at place) _ s is spells s.behind tt
+served old new entries (ended.BadWire code place) text messages ending is spells s = for_good old new entries text messages ending (Bad_at code place) _ s is spells (bad_ends code place (length s.taken) s.rest s.behind) tt
+served old new entries (ended.TooLarge place) text messages ending is spells s = for_good old new entries text messages ending (Large_at place) _ s is spells (large_ends place (length s.taken) s.rest s.behind) tt
 served old new entries ended.ReadFault text messages ending is spells s = tt
 served old new entries ended.WriteFault text messages ending is spells s = tt
 served old new entries ended.NoMemory text messages ending is spells s = tt

@@ -1,12 +1,12 @@
 -- What a session took off its source, gave to its sink, and did at its desk.
-use Rattle.std.specs.Prelude.{◌≡◌, ◌≢◌, ℕ, ◌≤◌, ◌⊎◌, List, [], ◌∷◌, ◌++◌, length, Option}
+use Rattle.std.specs.Prelude.{◌≡◌, ◌≢◌, ℕ, ◌+◌, ◌≤◌, ◌⊎◌, List, [], ◌∷◌, ◌++◌, length, Option}
 use Rattle.std.specs.Io.KnownBytes.{Consumes, IsAtEnd}
 use Rattle.hms_outside.specs.Told.{Goes, Held}
 use Rattle.desk.specs.History.{Entry}
 use Rattle.thrift_binary.specs.declared.fault.WireFault.{WireFault}
 use Rattle.thrift_binary.specs.declared.fault.WireFault.TheVariants as fault
-use Rattle.thrift_binary.specs.Messages.{Message, Asks, IsMessage, StopsMessage, Ends, Bad_at, Large_at, Truncated as TruncatedAt}
-use Rattle.thrift_binary.specs.Taking.{Stop, Cut, room_at}
+use Rattle.thrift_binary.specs.Messages.{Message, Asks, IsMessage, StopsMessage, Ends, Truncated as TruncatedAt}
+use Rattle.thrift_binary.specs.Taking.{Stop, Cut, Bad, Large, room_at}
 use Rattle.ms_calls.specs.declared.request.Asked.TheVariants as ask
 use Rattle.ms_session.specs.Requests.{asks}
 use Rattle.ms_session.specs.Turns.{Carried, Replied, RepliedPart, Turn, replies_of, turn_bytes}
@@ -51,6 +51,16 @@ IsShutdown at rest = (message : Message) × IsMessage Asks message rest × (asks
 abbrev pub IsPart : ℕ → List ℕ → Type 0
 IsPart at rest = (((stop : Stop) × StopsMessage Asks stop rest) ⊎ ((message : Message) × IsMessage Asks message rest)) × (length rest ≤ room_at at)
 
+-- the rest is exactly the bytes that were judged: up to where they go on as no message does, for the cause with this code, at this place
+abbrev pub IsBad : ℕ → ℕ → ℕ → List ℕ → Type 0
+IsBad code place at rest = (q : ℕ) × StopsMessage Asks (Bad code q) rest × (length rest ≤ room_at at) × (place ≡ at + q)
+
+-- the rest is exactly the bytes that were judged, where what begins at this place is too large: up to there, or one byte past the limit
+abbrev pub IsLarge : ℕ → ℕ → List ℕ → Type 0
+IsLarge place at rest =
+    ((q : ℕ) × StopsMessage Asks (Large q) rest × (length rest ≤ room_at at) × (place ≡ at + q))
+    ⊎ ((front : List ℕ) × (byte : ℕ) × (rest ≡ front ++ byte ∷ []) × StopsMessage Asks Cut front × (length front ≡ room_at at) × (place ≡ at + length front))
+
 -- how a session ended that had these entries of its caller
 abbrev pub Session : Met → Met → List Entry → End → Type 0
 -- the whole input is messages
@@ -59,10 +69,10 @@ Session old new entries Done = Served old new entries (λ _ rest. (rest ≡ []) 
 Session old new entries Shutdown = Served old new entries IsShutdown
 -- the input ends behind the messages, inside another, at this place
 Session old new entries (Truncated place) = Served old new entries (λ at rest. Ends Asks at rest (TruncatedAt place) × IsAtEnd new.left)
--- behind the messages the input goes on as no message does, for the cause with this code, at this place; whatever follows what was taken changes nothing
-Session old new entries (BadWire code place) = Served old new entries (λ at rest. Ends Asks at rest (Bad_at code place))
--- what begins at this place is too large
-Session old new entries (TooLarge place) = Served old new entries (λ at rest. Ends Asks at rest (Large_at place))
+-- behind the messages the input goes on as no message does, for the cause with this code, at this place; nothing was taken behind what shows it, and whatever follows changes nothing
+Session old new entries (BadWire code place) = Served old new entries (IsBad code place)
+-- what begins at this place is too large; nothing was taken behind what shows it
+Session old new entries (TooLarge place) = Served old new entries (IsLarge place)
 -- no message that was taken whole was left unanswered
 Session old new entries ReadFault = Served old new entries IsFront
 -- nothing was carried out behind the reply that could not be written
