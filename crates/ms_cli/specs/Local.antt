@@ -2,7 +2,9 @@
 use Rattle.std.specs.Prelude.{◌≡◌, ℕ, ◌⊎◌, List, [], ◌∷◌, ◌++◌, replicate, take, codes, Option, Result, MatchResult}
 use Rattle.std.specs.Fmt.{decimal}
 use Rattle.std.specs.Io.KnownBytes.{Consumes}
+use Rattle.hms_outside.specs.Causes.{HasCause}
 use Rattle.hms_outside.specs.Told.{Goes, Grew, Held, Same, Sent}
+use Rattle.hms_outside.specs.declared.outage.Outage.{Outage}
 use Rattle.desk.specs.History.{Entry, Legal, NoneAbove, Start}
 use Rattle.desk.specs.State.{start}
 use Rattle.ms_session.specs.Session.{Met, Session}
@@ -39,16 +41,6 @@ line_of NoMemory = codes "out of memory\n"
 abbrev pub usage : List ℕ
 usage = codes "usage\n"
 
--- a line was added whole and flushed, or a front of it was added
-abbrev pub Lines : List ℕ → Option Held → Option Held → Type 0
-Lines line old new = Goes (Sent line) old new ⊎ ((n : ℕ) × Goes (Grew (take n line)) old new)
-
--- an end was told; a good end leaves the sink of errors
-abbrev pub Tells : End → Option Held → Option Held → Type 0
-Tells Done old new = Goes Same old new
-Tells Shutdown old new = Goes Same old new
-Tells end old new = Lines (line_of end) old new
-
 -- a call that tells a line: after Ok it was added whole and flushed, and after an Err a front of it was added
 abbrev pub TellsLine : {T E : Type 0} → List ℕ → Result T E → Option Held → Option Held → Type 0
 TellsLine line result old new = MatchResult result (λ _. Goes (Sent line) old new) (λ _. (n : ℕ) × Goes (Grew (take n line)) old new)
@@ -63,12 +55,25 @@ TellsEnd Done result old new = MatchResult result (λ _. Goes Same old new) (λ 
 TellsEnd Shutdown result old new = MatchResult result (λ _. Goes Same old new) (λ _. ⊥)
 TellsEnd end result old new = TellsLine (line_of end) result old new
 
+-- the sink of errors: what it holds, where that is known, and how often it has failed
+pub record Errors : Type 0 where
+  pub held : Option Held
+  pub faults : ℕ
+
+-- a line was told, and that was answered so: where the sink counted no fault and refused no memory the line is there, whole and flushed
+abbrev pub Lines : List ℕ → Errors → Errors → Type 0
+Lines line old new = (told : Result (Unit {0}) Outage) × TellsLine line told old.held new.held × HasCause old.faults new.faults told
+
+-- an end was told, in the same way; a good end leaves the sink of errors
+abbrev pub Tells : End → Errors → Errors → Type 0
+Tells end old new = (told : Result (Unit {0}) Outage) × TellsEnd end told old.held new.held × HasCause old.faults new.faults told
+
 -- the store that the command begins with: a new one, whose id is sixteen zeros and whose events are numbered from 1
 abbrev pub new_store : Start
 new_store = record { state = start (replicate 16 0) 0; fault = 0 }
 
 -- the words are the command: a session was served at a new store to a caller alone, and its end told; these entries are all that the store went through, and, as it lies in memory, it counted no fault
-pub record Piped (words : List (List ℕ)) (old new : Met) (errors errors' : Option Held) (status : ℕ) : Type 0 where
+pub record Piped (words : List (List ℕ)) (old new : Met) (errors errors' : Errors) (status : ℕ) : Type 0 where
   pub command : IsPipe words
   pub entries : List Entry
   pub ended : End
@@ -79,7 +84,7 @@ pub record Piped (words : List (List ℕ)) (old new : Met) (errors errors' : Opt
   pub told : Tells ended errors errors'
 
 -- the words are no command: nothing was taken, and nothing written but the line that says so
-pub record Refused (words : List (List ℕ)) (old new : Met) (errors errors' : Option Held) (status : ℕ) : Type 0 where
+pub record Refused (words : List (List ℕ)) (old new : Met) (errors errors' : Errors) (status : ℕ) : Type 0 where
   pub no_command : IsPipe words → ⊥
   pub source_stays : Consumes old.left new.left []
   pub sink_stays : Goes Same old.held new.held
@@ -87,5 +92,5 @@ pub record Refused (words : List (List ℕ)) (old new : Met) (errors errors' : O
   pub status_is : status ≡ 2
   pub told : Lines usage errors errors'
 
-abbrev pub Runs : List (List ℕ) → Met → Met → Option Held → Option Held → ℕ → Type 0
+abbrev pub Runs : List (List ℕ) → Met → Met → Errors → Errors → ℕ → Type 0
 Runs words old new errors errors' status = Piped words old new errors errors' status ⊎ Refused words old new errors errors' status

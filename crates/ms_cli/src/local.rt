@@ -41,7 +41,7 @@ pub fn run_local<S: Source, K: Sink, E: Sink, D: Disk, F: Folder, C: Clock>(
     folder: &mut F,
     clock: &mut C,
 ) -> LocalEnd<D>
-    ensures runs { Runs (map string_bytes words.now) (record { left = S.left input.old; held = K.held output.old; clock = C.moments clock.old }) (record { left = S.left input.new; held = K.held output.new; clock = C.moments clock.new }) (E.held errors.old) (E.held errors.new) result.status }
+    ensures runs { Runs (map string_bytes words.now) (record { left = S.left input.old; held = K.held output.old; clock = C.moments clock.old }) (record { left = S.left input.new; held = K.held output.new; clock = C.moments clock.new }) (record { held = E.held errors.old; faults = E.faults errors.old }) (record { held = E.held errors.new; faults = E.faults errors.new }) result.status }
     ensures read { result.status ≡ 3 → Rose (S.faults input.old) (S.faults input.new) }
     ensures write { result.status ≡ 4 → Rose (K.faults output.old) (K.faults output.new) }
     ensures input_stays { result.status ≢ 3 → S.faults input.new ≡ S.faults input.old }
@@ -49,6 +49,8 @@ pub fn run_local<S: Source, K: Sink, E: Sink, D: Disk, F: Folder, C: Clock>(
     ensures disk_a { result.disk_a ≡ disk_a }
     ensures disk_b { result.disk_b ≡ disk_b }
     ensures folder { folder.new ≡ folder.old }
+    ensures input { result.status ≡ 2 → input.new ≡ input.old }
+    ensures output { result.status ≡ 2 → output.new ≡ output.old }
     ensures clock { result.status ≡ 2 → clock.new ≡ clock.old }
 {
     let status = if is_pipe(words) {
@@ -85,7 +87,7 @@ fn pipe<S: Source, K: Sink, E: Sink, F: Folder, C: Clock>(
 ) -> u8
     ensures session { (entries : List Entry) × (ended : End) × Legal new_store entries × NoneAbove 0 entries
         × Session (record { left = S.left input.old; held = K.held output.old; clock = C.moments clock.old }) (record { left = S.left input.new; held = K.held output.new; clock = C.moments clock.new }) entries ended
-        × (result ≡ status_of ended) × Tells ended (E.held errors.old) (E.held errors.new) }
+        × (result ≡ status_of ended) × Tells ended (record { held = E.held errors.old; faults = E.faults errors.old }) (record { held = E.held errors.new; faults = E.faults errors.new }) }
     ensures read { result ≡ 3 → Rose (S.faults input.old) (S.faults input.new) }
     ensures write { result ≡ 4 → Rose (K.faults output.old) (K.faults output.new) }
     ensures input_stays { result ≢ 3 → S.faults input.new ≡ S.faults input.old }
