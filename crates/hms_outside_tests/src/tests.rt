@@ -66,8 +66,9 @@ fn a_disk_keeps_what_was_written(rt: HostRuntime) -> Result<(), Fail> {
     assert_eq!(rt; disk.sync(), Ok(()));
     assert_eq!(rt; disk.sync(), Err(Outage::Failed));
     let mut buf = [0; 8];
-    assert_eq!(rt; disk.read_at(1, &mut buf), Ok(4));
-    assert!(rt; buf.starts_with(b"-XYZ"));
+    // The write that failed wrote none of its bytes.
+    assert_eq!(rt; disk.read_at(0, &mut buf), Ok(5));
+    assert!(rt; buf.starts_with(b"a-XYZ"));
     assert_eq!(rt; disk.read_at(9, &mut buf), Ok(0));
     Ok(())
 }
