@@ -6,6 +6,7 @@
 mod catalogues;
 #[cfg(test)]
 mod messages;
+#[cfg(test)]
 mod refusing;
 #[cfg(test)]
 mod sessions;
