@@ -1,4 +1,4 @@
-use Rattle.std.proofs.Common.{◌≡◌, ◌≤◌, Some, []}
+use Rattle.std.proofs.Common.{◌≡◌, Some, []}
 use Rattle.thrift_binary.specs.Taking.{Took}
 use Rattle.ms_structs.specs.Slots.{typed}
 use Rattle.ms_structs.specs.Values.{fold_elements, with_item}

@@ -1,4 +1,4 @@
-use Rattle.std.proofs.Common.{◌≡◌, ◌-◌, ◌≤◌}
+use Rattle.std.proofs.Common.{◌≡◌, ◌-◌}
 use Rattle.thrift_binary.specs.Taking.{Took}
 use Rattle.ms_structs.specs.Slots.{fold_fields}
 use Rattle.ms_structs.proofs.FieldsSoFar.{SomeFields}
