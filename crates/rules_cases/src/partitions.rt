@@ -9,7 +9,7 @@ use part_names::{
 };
 use std::alloc::Global;
 use std::rt::Files;
-use table_cases::{Answers, Unable, run_table};
+use table_cases::{Answers, Unable, push_word, run_table};
 
 /// Runs the tables of names and values.
 pub fn run_partitions(rt: &(impl Files + Print + AllocGlobal)) -> Result<(), Unable> {
@@ -21,8 +21,8 @@ pub fn run_partitions(rt: &(impl Files + Print + AllocGlobal)) -> Result<(), Una
     run_table(rt, "values", &Values)
 }
 
-/// `KEYS -- VALUES`: the name, and the values that it is read back into; or `unfit` where no name may
-/// be made of them.
+/// `KEYS -- VALUES`: the name, and in brackets the values that it is read back into; or `unfit` where
+/// no name may be made of them.
 struct Making;
 
 impl Answers for Making {
@@ -45,13 +45,12 @@ impl Answers for Making {
 // A name and the values that it is read into.
 fn name_and_values(alloc: Global, name: &Text) -> Result<String, Unable> {
     let mut line = String::new(alloc);
-    push_text(&mut line, name.as_str())?;
-    line.push_str(" -- ")?;
-    line.push_str(texts_said(alloc, vals_of(alloc, name))?.as_str())?;
-    Ok(line)
+    push_word(&mut line, name.as_str())?;
+    let values = texts_said(alloc, vals_of(alloc, name))?;
+    Ok(format!(in alloc; "{line} [{values}]")?)
 }
 
-/// A name: the keys, values and pairs `KEY:VALUE` that it is read into, with `--` between them.
+/// A name: the keys, values and pairs `KEY:VALUE` that it is read into, each in brackets.
 struct Reading;
 
 impl Answers for Reading {
@@ -60,7 +59,7 @@ impl Answers for Reading {
         let keys = texts_said(alloc, keys_of(alloc, &name))?;
         let values = texts_said(alloc, vals_of(alloc, &name))?;
         let pairs = pairs_said(alloc, spec_of(alloc, &name))?;
-        Ok(format!(in alloc; "{keys} -- {values} -- {pairs}")?)
+        Ok(format!(in alloc; "[{keys}] [{values}] [{pairs}]")?)
     }
 }
 
@@ -72,31 +71,28 @@ fn texts_said(alloc: Global, read: Result<Texts, NameFault>) -> Result<String, U
     }
 }
 
-// The words of the pairs that a name was read into, or why it wasn't read.
+// The pairs that a name was read into, or why it wasn't read.
 fn pairs_said(alloc: Global, read: Result<Params, NameFault>) -> Result<String, Unable> {
     match read {
-        Ok(pairs) => words_of(alloc, &pair_texts(alloc, &pairs)?),
+        Ok(pairs) => pairs_of(alloc, &pairs),
         Err(fault) => refusal(alloc, fault),
     }
 }
 
-fn pair_texts(alloc: Global, pairs: &Params) -> Result<Texts, Unable> {
-    let mut texts = Texts::new(alloc);
-    for (key, value) in pairs.iter() {
-        let pair = format!(in alloc; "{}:{}", key.as_str(), value.as_str())?;
-        texts.push(Text::of(alloc, pair.as_str())?)?;
-    }
-    Ok(texts)
-}
-
-// The words of texts, or `none`.
 fn words_of(alloc: Global, texts: &Texts) -> Result<String, Unable> {
-    if texts.is_empty() {
-        return word(alloc, "none");
-    }
     let mut line = String::new(alloc);
     for text in texts.as_slice() {
         push_text(&mut line, text.as_str())?;
+    }
+    Ok(line)
+}
+
+fn pairs_of(alloc: Global, pairs: &Params) -> Result<String, Unable> {
+    let mut line = String::new(alloc);
+    for (key, value) in pairs.iter() {
+        push_text(&mut line, key.as_str())?;
+        line.push(':')?;
+        push_word(&mut line, value.as_str())?;
     }
     Ok(line)
 }

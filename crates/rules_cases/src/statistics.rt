@@ -76,30 +76,42 @@ fn value_of(alloc: Global, told: &str) -> Result<StatValue, Unable> {
     for word in rest.split(' ') {
         numbers.push(number_of(word)?)?;
     }
-    match (kind, numbers.as_slice()) {
-        ("flags", &[trues, falses, nulls]) => Ok(StatValue::Flags {
+    value_from(kind, numbers.as_slice()).ok_or(Unable::Form)
+}
+
+// The value of a kind with these numbers, if there is one.
+fn value_from(kind: &str, numbers: &[i64]) -> Option<StatValue> {
+    match (kind, numbers) {
+        ("flags", &[trues, falses, nulls]) => Some(StatValue::Flags {
             trues,
             falses,
             nulls,
         }),
-        ("long", &[low, high, nulls, distinct]) => Ok(StatValue::Long {
+        ("long", &[low, high, nulls, distinct]) => Some(StatValue::Long {
             low: Some(low),
             high: Some(high),
             nulls,
             distinct,
         }),
-        ("text", &[longest, nulls, distinct]) => Ok(StatValue::Str {
+        ("text", &[longest, nulls, distinct]) => Some(StatValue::Str {
             longest,
             average: AVERAGE,
             nulls,
             distinct,
         }),
-        _ => Err(Unable::Form),
+        _ => None,
     }
 }
 
 fn number_of(word: &str) -> Result<i64, Unable> {
-    word.parse::<i64>().or(Err(Unable::Form))
+    match word.strip_prefix('-') {
+        Some(digits) => Ok(-(count_of(digits)? as i64)),
+        None => Ok(count_of(word)? as i64),
+    }
+}
+
+fn count_of(digits: &str) -> Result<u32, Unable> {
+    digits.parse::<u32>().or(Err(Unable::Form))
 }
 
 /// Steps from no records on: `COLUMN=MOMENT` puts a record of a moment, and `-COLUMN` removes one. What
