@@ -3,3 +3,4 @@ pub mod History
 pub mod Entries
 pub mod Adds
 pub mod Scripts
+pub mod Laws
