@@ -1,10 +1,11 @@
 -- What follows from histories.
-use Rattle.std.specs.Prelude.{◌≡◌, ℕ, ◌+◌, ◌≤◌, List, [], ◌∷◌, ◌++◌, length}
+use Rattle.std.specs.Prelude.{◌≡◌, ◌⊎◌, ℕ, ◌+◌, ◌≤◌, Bool, true, false, not, ◌&&◌, List, [], ◌∷◌, ◌++◌, length, Some, option_to_list}
 use Rattle.cat_types.specs.declared.changes.Event.{Event}
+use Rattle.cat_types.specs.declared.steps.Answer.TheVariants as answer
 use Rattle.catalogue.specs.Catalogue.{Catalogue}
 use Rattle.catalogue.specs.Changes.{done}
-use Rattle.desk.specs.History.{Moment, Start, events_from, place_after, place_of}
-use Rattle.desk.specs.State.{State}
+use Rattle.desk.specs.History.{Entry, Moment, took, reopened, Place, Start, MayFollow, events_at, events_from, is_refused, next, place_after, place_of}
+use Rattle.desk.specs.State.{State, due, durable, event_of, writes}
 
 -- ---- a change and its event
 
@@ -31,3 +32,39 @@ pub record Leads (old : State) (events : List Event) (new : State) : Type 0 wher
 -- A change and its event stand together: behind every history, with openings among its moments, the state is the one to which the history's events lead from its start.
 abbrev pub ChangesAndEventsStandTogether : Type 0
 ChangesAndEventsStandTogether = (s : Start) (history : List Moment) → Leads s.state (events_from (place_of s) history) (place_after (place_of s) history).state
+
+-- ---- what an opening finds
+
+-- a moment that settles what was refused before it: an accepted writing step, or an opening
+abbrev pub settles : Place → Moment → Bool
+settles p (took e) = writes p.state e.0.step && not (is_refused e.1.answer)
+settles p (reopened a fault) = true
+
+abbrev pub NoneSettles : Place → List Moment → Type 0
+NoneSettles p [] = Unit {0}
+NoneSettles p (m ∷ ms) = (settles p m ≡ false) × NoneSettles (next p m) ms
+
+-- the moment with this number, counted from the place's own, was a writing step that was answered by want of memory or a fault of the store, and no moment behind it settled it
+pub record Unsettled (p : Place) (history : List Moment) (n : ℕ) : Type 0 where
+  pub before : List Moment
+  pub entry : Entry
+  pub behind : List Moment
+  pub is : history ≡ before ++ took entry ∷ behind
+  pub number : n ≡ p.number + length before
+  pub writing : writes (place_after p before).state entry.0.step ≡ true
+  pub refused : (entry.1.answer ≡ answer.NoMemory) ⊎ (entry.1.answer ≡ answer.StoreFault)
+  pub stands : NoneSettles (next (place_after p before) (took entry)) behind
+
+-- an opening there may find that step done, and then the state is what was due at the step's own place, with its event
+pub record FindsDone (p : Place) (history : List Moment) (n fault : ℕ) (u : Unsettled p history n) : Type 0 where
+  pub may : MayFollow (place_after p history) (reopened (Some n) fault)
+  pub state : (next (place_after p history) (reopened (Some n) fault)).state ≡ durable (due (place_after p u.before).state u.entry.0.caller u.entry.0.step).state
+  pub events : events_at (place_after p history) (reopened (Some n) fault) ≡ option_to_list (event_of (place_after p u.before).state u.entry.0.step)
+
+-- An opening finds only such a step done.
+abbrev pub OnlyUnsettledAreFound : Type 0
+OnlyUnsettledAreFound = (s : Start) (history : List Moment) (n fault : ℕ) → MayFollow (place_after (place_of s) history) (reopened (Some n) fault) → Unsettled (place_of s) history n
+
+-- And each such step may be found done.
+abbrev pub AllUnsettledAreFound : Type 0
+AllUnsettledAreFound = (s : Start) (history : List Moment) (n fault : ℕ) (u : Unsettled (place_of s) history n) → FindsDone (place_of s) history n fault u

@@ -1,10 +1,18 @@
 //! Laws of histories, each the contract of a function that does nothing.
 
-ghost use Rattle.desk.specs.Laws.{ChangesAndEventsStandTogether};
+ghost use Rattle.desk.specs.Laws.{AllUnsettledAreFound, ChangesAndEventsStandTogether, OnlyUnsettledAreFound};
 
 /// Behind every history, with openings among its moments, the catalogue is what the history's events
 /// make of the start's, and the state keeps exactly these events, numbered one after the other up to its
 /// newest number.
 pub fn changes_and_events_stand_together()
     ensures { ChangesAndEventsStandTogether }
+{}
+
+/// An opening may find done exactly the writing steps that were answered by want of memory or a fault of
+/// the store, with no accepted writing step and no opening behind them; and then the state is what was
+/// due at the step's own place, with its event.
+pub fn openings_find_refused_steps()
+    ensures only { OnlyUnsettledAreFound }
+    ensures all { AllUnsettledAreFound }
 {}
