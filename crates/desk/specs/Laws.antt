@@ -1,7 +1,8 @@
 -- What follows from histories.
-use Rattle.std.specs.Prelude.{◌≡◌, ◌⊎◌, ℕ, ◌+◌, ◌≤◌, Bool, true, false, not, ◌&&◌, List, [], ◌∷◌, ◌++◌, length, Some, option_to_list}
+use Rattle.std.specs.Prelude.{◌≡◌, ◌≢◌, ◌⊎◌, ◌↔◌, ℕ, ◌+◌, ◌≤◌, Bool, true, false, not, ◌&&◌, List, [], ◌∷◌, ◌++◌, length, Some, option_to_list}
 use Rattle.cat_types.specs.declared.changes.Event.{Event}
 use Rattle.cat_types.specs.declared.steps.Answer.TheVariants as answer
+use Rattle.cat_types.specs.declared.steps.Step.{Step}
 use Rattle.catalogue.specs.Catalogue.{Catalogue}
 use Rattle.catalogue.specs.Changes.{done}
 use Rattle.desk.specs.History.{Entry, Moment, took, reopened, Place, Start, MayFollow, events_at, events_from, is_refused, next, place_after, place_of}
@@ -68,3 +69,9 @@ OnlyUnsettledAreFound = (s : Start) (history : List Moment) (n fault : ℕ) → 
 -- And each such step may be found done.
 abbrev pub AllUnsettledAreFound : Type 0
 AllUnsettledAreFound = (s : Start) (history : List Moment) (n fault : ℕ) (u : Unsettled (place_of s) history n) → FindsDone (place_of s) history n fault u
+
+-- ---- which steps write
+
+-- A step writes exactly where what is on the disks of the due state behind it isn't what was there before.
+abbrev pub WritesWhereTheDisksChange : Type 0
+WritesWhereTheDisksChange = (s : State) (caller : ℕ) (step : Step) → (writes s step ≡ true) ↔ (durable (due s caller step).state ≢ durable s)

@@ -1,6 +1,11 @@
 //! Laws of histories, each the contract of a function that does nothing.
 
-ghost use Rattle.desk.specs.Laws.{AllUnsettledAreFound, ChangesAndEventsStandTogether, OnlyUnsettledAreFound};
+ghost use Rattle.desk.specs.Laws.{
+  AllUnsettledAreFound,
+  ChangesAndEventsStandTogether,
+  OnlyUnsettledAreFound,
+  WritesWhereTheDisksChange,
+};
 
 /// Behind every history, with openings among its moments, the catalogue is what the history's events
 /// make of the start's, and the state keeps exactly these events, numbered one after the other up to its
@@ -15,4 +20,9 @@ pub fn changes_and_events_stand_together()
 pub fn openings_find_refused_steps()
     ensures only { OnlyUnsettledAreFound }
     ensures all { AllUnsettledAreFound }
+{}
+
+/// A step writes exactly where the due state behind it has something else on the disks.
+pub fn steps_write_where_the_disks_change()
+    ensures { WritesWhereTheDisksChange }
 {}

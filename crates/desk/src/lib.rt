@@ -16,7 +16,10 @@ pub use core_trait::Core;
 pub use desk_trait::Desk;
 pub use entries::{Asked, Told};
 pub use foreign::Foreign;
-pub use laws::{changes_and_events_stand_together, openings_find_refused_steps};
+pub use laws::{
+    changes_and_events_stand_together, openings_find_refused_steps,
+    steps_write_where_the_disks_change,
+};
 pub use local::LocalDesk;
 pub use mem_core::MemCore;
 pub use script::{Script, ScriptDesk};
