@@ -6,7 +6,7 @@ use Rattle.cat_types.specs.declared.steps.Answer.{Answer}
 use Rattle.cat_types.specs.declared.steps.Answer.TheVariants as answer
 use Rattle.cat_types.specs.declared.steps.Step.{Step}
 use Rattle.hms_outside.specs.Causes.{Rose}
-use Rattle.desk.specs.State.{State, due, event_of, start, writes}
+use Rattle.desk.specs.State.{State, due, durable, event_of, start, writes}
 use Rattle.desk.specs.declared.entries.Asked.{Asked}
 use Rattle.desk.specs.declared.entries.Told.{Told}
 
@@ -24,7 +24,7 @@ pub record Start : Type 0 where
   pub state : State
   pub fault : ℕ
 
--- a writing step that was refused by a fault or for memory, and may yet be found done: its number, the state with it, and its event
+-- a writing step that was refused by a fault or for memory, and may yet be found done: its number, what is on the disks with it, and its event
 pub record Left : Type 0 where
   pub number : ℕ
   pub state : State
@@ -55,8 +55,9 @@ abbrev pub found_done : Option ℕ → List Left → Option Left
 found_done None left = None
 found_done (Some n) left = found n left
 
+-- what the opening gives: what is on the disks, with the step where one was found done
 abbrev pub state_found : State → Option Left → State
-state_found s None = s
+state_found s None = durable s
 state_found s (Some l) = l.state
 
 abbrev pub event_found : Option Left → Option Event
@@ -67,7 +68,7 @@ event_found (Some l) = l.event
 abbrev pub left_after : Place → Entry → List Left
 left_after p e =
     if writes p.state e.0.step
-    then if is_refused e.1.answer then (record { number = p.number; state = (due p.state e.0.caller e.0.step).state; event = event_of p.state e.0.step }) ∷ p.left else []
+    then if is_refused e.1.answer then (record { number = p.number; state = durable (due p.state e.0.caller e.0.step).state; event = event_of p.state e.0.step }) ∷ p.left else []
     else p.left
 
 -- where a history stands after one moment more

@@ -1,5 +1,5 @@
 -- What follows from histories.
-use Rattle.std.specs.Prelude.{◌≡◌, ◌≢◌, ◌⊎◌, ◌↔◌, ℕ, ◌+◌, ◌≤◌, Bool, true, false, not, ◌&&◌, List, [], ◌∷◌, ◌++◌, length, Some, option_to_list}
+use Rattle.std.specs.Prelude.{◌≡◌, ◌≢◌, ◌⊎◌, ◌↔◌, ℕ, ◌+◌, ◌≤◌, Bool, true, false, not, ◌&&◌, List, [], ◌∷◌, ◌++◌, length, Option, Some, None, option_to_list}
 use Rattle.cat_types.specs.declared.changes.Event.{Event}
 use Rattle.cat_types.specs.declared.steps.Answer.TheVariants as answer
 use Rattle.cat_types.specs.declared.steps.Step.{Step}
@@ -75,3 +75,14 @@ AllUnsettledAreFound = (s : Start) (history : List Moment) (n fault : ℕ) (u : 
 -- A step writes exactly where what is on the disks of the due state behind it isn't what was there before.
 abbrev pub WritesWhereTheDisksChange : Type 0
 WritesWhereTheDisksChange = (s : State) (caller : ℕ) (step : Step) → (writes s step ≡ true) ↔ (durable (due s caller step).state ≢ durable s)
+
+-- ---- what an opening gives
+
+-- An opening that finds no step done gives what is on the disks of the state before it.
+abbrev pub OpeningsGiveTheDisks : Type 0
+OpeningsGiveTheDisks = (p : Place) (fault : ℕ) → (next p (reopened None fault)).state ≡ durable p.state
+
+-- Behind an opening, whatever it finds, all of the state is on the disks.
+abbrev pub OpenedIsDurable : Type 0
+OpenedIsDurable = (s : Start) (history : List Moment) (a : Option ℕ) (fault : ℕ)
+    → durable (next (place_after (place_of s) history) (reopened a fault)).state ≡ (next (place_after (place_of s) history) (reopened a fault)).state

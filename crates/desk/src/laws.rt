@@ -4,6 +4,8 @@ ghost use Rattle.desk.specs.Laws.{
   AllUnsettledAreFound,
   ChangesAndEventsStandTogether,
   OnlyUnsettledAreFound,
+  OpenedIsDurable,
+  OpeningsGiveTheDisks,
   WritesWhereTheDisksChange,
 };
 
@@ -25,4 +27,11 @@ pub fn openings_find_refused_steps()
 /// A step writes exactly where the due state behind it has something else on the disks.
 pub fn steps_write_where_the_disks_change()
     ensures { WritesWhereTheDisksChange }
+{}
+
+/// An opening that finds no step done gives what is on the disks, and behind any opening all of the state
+/// is on them.
+pub fn openings_give_the_disks()
+    ensures nothing_found { OpeningsGiveTheDisks }
+    ensures durable { OpenedIsDurable }
 {}

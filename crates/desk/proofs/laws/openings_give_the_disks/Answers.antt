@@ -1,0 +1,5 @@
+use Rattle.std.proofs.Common.{refl}
+use Rattle.desk.proofs.laws.openings_give_the_disks.Goals as goal
+
+pub returns : goal.returns
+returns c = record { nothing_found = λ p fault. refl; durable = λ s history a fault. refl }
