@@ -1,12 +1,16 @@
 -- What follows from histories.
 use Rattle.std.specs.Prelude.{◌≡◌, ◌≢◌, ◌⊎◌, ◌↔◌, ℕ, ◌+◌, ◌≤◌, Bool, true, false, not, ◌&&◌, List, [], ◌∷◌, ◌++◌, length, Option, Some, None, option_to_list}
+use Rattle.std.specs.Cmp.Lexicographic.{slice_cmp}
+use Rattle.std.specs.List.Sorted.{IsStrictlySortedBy}
+use Rattle.std.specs.Map.{keys_of}
+use Rattle.std.specs.Ordering.{nat_cmp}
 use Rattle.cat_types.specs.declared.changes.Event.{Event}
 use Rattle.cat_types.specs.declared.steps.Answer.TheVariants as answer
 use Rattle.cat_types.specs.declared.steps.Step.{Step}
 use Rattle.catalogue.specs.Catalogue.{Catalogue}
 use Rattle.catalogue.specs.Changes.{done}
 use Rattle.desk.specs.History.{Entry, Moment, took, reopened, Place, Start, MayFollow, events_at, events_from, is_refused, next, place_after, place_of}
-use Rattle.desk.specs.State.{State, due, durable, event_of, writes}
+use Rattle.desk.specs.State.{State, due, durable, event_of, start, writes}
 
 -- ---- a change and its event
 
@@ -86,3 +90,18 @@ OpeningsGiveTheDisks = (p : Place) (fault : ℕ) → (next p (reopened None faul
 abbrev pub OpenedIsDurable : Type 0
 OpenedIsDurable = (s : Start) (history : List Moment) (a : Option ℕ) (fault : ℕ)
     → durable (next (place_after (place_of s) history) (reopened a fault)).state ≡ (next (place_after (place_of s) history) (reopened a fault)).state
+
+-- ---- the names of databases
+
+-- the names of a catalogue's databases rise strictly, by their bytes
+abbrev pub NamesRise : Catalogue → Type 0
+NamesRise cat = IsStrictlySortedBy (slice_cmp nat_cmp) (keys_of cat.databases)
+
+-- Names that rise at the start rise behind every history.
+abbrev pub NamesGoOnRising : Type 0
+NamesGoOnRising = (s : Start) (history : List Moment) → NamesRise s.state.catalogue → NamesRise (place_after (place_of s) history).state.catalogue
+
+-- Names rise behind every history of a new store.
+abbrev pub NamesOfNewStoresRise : Type 0
+NamesOfNewStoresRise = (id : List ℕ) (base fault : ℕ) (history : List Moment)
+    → NamesRise (place_after (place_of (record { state = start id base; fault = fault })) history).state.catalogue

@@ -3,6 +3,8 @@
 ghost use Rattle.desk.specs.Laws.{
   AllUnsettledAreFound,
   ChangesAndEventsStandTogether,
+  NamesGoOnRising,
+  NamesOfNewStoresRise,
   OnlyUnsettledAreFound,
   OpenedIsDurable,
   OpeningsGiveTheDisks,
@@ -34,4 +36,11 @@ pub fn steps_write_where_the_disks_change()
 pub fn openings_give_the_disks()
     ensures nothing_found { OpeningsGiveTheDisks }
     ensures durable { OpenedIsDurable }
+{}
+
+/// The names of the databases rise strictly behind every history of a new store, and of any start at which
+/// they rise.
+pub fn names_rise()
+    ensures go_on { NamesGoOnRising }
+    ensures new_stores { NamesOfNewStoresRise }
 {}

@@ -17,8 +17,8 @@ pub use desk_trait::Desk;
 pub use entries::{Asked, Told};
 pub use foreign::Foreign;
 pub use laws::{
-    changes_and_events_stand_together, openings_find_refused_steps, openings_give_the_disks,
-    steps_write_where_the_disks_change,
+    changes_and_events_stand_together, names_rise, openings_find_refused_steps,
+    openings_give_the_disks, steps_write_where_the_disks_change,
 };
 pub use local::LocalDesk;
 pub use mem_core::MemCore;
