@@ -1,14 +1,14 @@
-//! Single calls of the reader. An input is the name of a call and the bytes that it reads.
+//! Calls of the reader. An input is the names of calls, with commas between them, and the bytes that they
+//! read.
 
-use crate::cutting::{Cut, CutSource, cuts};
-use crate::telling::brief;
+use crate::cutting::{Cut, CutSource, WHOLE, cuts};
 use cat_values::Text;
 use std::alloc::Global;
 use std::fmt::Debug;
 use table_cases::{Answers, Unable, bytes_of};
 use thrift_binary::{Head, WireFault, WireReader};
 
-/// What calls answer, however the bytes are cut. Behind a value that was read one byte more stands,
+/// What calls answer, however the bytes are cut. Behind values that were read one byte more stands,
 /// which is read next; a fault is told again.
 pub struct Calls;
 
@@ -26,15 +26,15 @@ impl Answers for Calls {
 // The byte behind a value.
 const NEXT: u8 = 42;
 
-// What a call answers to bytes that come whole.
+// What calls answer to bytes that come whole.
 fn first_told(alloc: Global, bytes: &[u8], call: &str) -> Result<String, Unable> {
-    let mut source = CutSource::new(bytes, Cut::Whole);
-    told(alloc, &mut WireReader::new(&mut source), call)
+    let mut source = CutSource::new(bytes, WHOLE);
+    told_calls(alloc, &mut WireReader::new(&mut source), call)
 }
 
 // What a call answers, and where that depends on the cut, what it answers so.
 fn told_in_all_cuts(alloc: Global, bytes: &[u8], call: &str) -> Result<String, Unable> {
-    let whole = told_cut(alloc, bytes, Cut::Whole, call)?;
+    let whole = told_cut(alloc, bytes, WHOLE, call)?;
     for cut in cuts(alloc, bytes.len())?.iter() {
         let other = told_cut(alloc, bytes, *cut, call)?;
         if other.as_str() != whole.as_str() {
@@ -49,7 +49,7 @@ fn told_in_all_cuts(alloc: Global, bytes: &[u8], call: &str) -> Result<String, U
 fn told_cut(alloc: Global, bytes: &[u8], cut: Cut, call: &str) -> Result<String, Unable> {
     let mut source = CutSource::new(bytes, cut);
     let mut reader = WireReader::new(&mut source);
-    let first = told(alloc, &mut reader, call)?;
+    let first = told_calls(alloc, &mut reader, call)?;
     let next = told_plain(alloc, &reader.byte())?;
     let wanted = if first.as_str().starts_with("Ok") {
         "Ok(42)"
@@ -64,6 +64,18 @@ fn told_cut(alloc: Global, bytes: &[u8], cut: Cut, call: &str) -> Result<String,
 
 type Reader<'a, 'b> = WireReader<'a, CutSource<'b>>;
 
+// What calls answer, one behind the other.
+fn told_calls(alloc: Global, reader: &mut Reader<'_, '_>, calls: &str) -> Result<String, Unable> {
+    let mut words = String::new(alloc);
+    for call in calls.split(',') {
+        if !words.is_empty() {
+            words.push_str(" ")?;
+        }
+        words.push_str(told(alloc, reader, call)?.as_str())?;
+    }
+    Ok(words)
+}
+
 // What a call answers.
 fn told(alloc: Global, reader: &mut Reader<'_, '_>, call: &str) -> Result<String, Unable> {
     if let Some(ty) = call.strip_prefix("skip") {
@@ -77,6 +89,7 @@ fn told(alloc: Global, reader: &mut Reader<'_, '_>, call: &str) -> Result<String
         "field" => told_plain(alloc, &reader.field()),
         "list" => told_plain(alloc, &reader.list()),
         "map" => told_plain(alloc, &reader.map()),
+        "open" => told_plain(alloc, &reader.open()),
         "closed" => told_plain(alloc, &closed(reader)),
         _ => told_number(alloc, reader, call),
     }
@@ -125,12 +138,13 @@ fn told_plain<T: Debug>(alloc: Global, answer: &Result<T, WireFault>) -> Result<
 // A text, a long one by its size.
 fn told_text(alloc: Global, answer: &Result<Option<Text>, WireFault>) -> Result<String, Unable> {
     Ok(match answer {
+        Ok(Some(text)) if text.len() > 60 => {
+            let size = text.len();
+            format!(in alloc; "Ok({size} bytes)")?
+        }
         Ok(Some(text)) => {
-            let (size, text) = (text.len(), text.as_str());
-            match brief(text) {
-                Some(text) => format!(in alloc; "Ok({text})")?,
-                None => format!(in alloc; "Ok({size} bytes)")?,
-            }
+            let text = text.as_str();
+            format!(in alloc; "Ok({text})")?
         }
         Ok(None) => format!(in alloc; "Ok(no text)")?,
         Err(fault) => format!(in alloc; "Err({fault:?})")?,

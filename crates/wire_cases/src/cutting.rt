@@ -1,35 +1,52 @@
 //! Sources that cut what they give.
 
-ghost use Rattle.std.specs.Prelude.{◌<◌, ◌≤◌, None};
+ghost use Rattle.std.specs.Prelude.{◌≤◌, None};
 
 use hms_outside::{Outage, Source};
 use std::alloc::Global;
 use table_cases::Unable;
 
-/// How a source cuts what it gives.
+/// How a source cuts what it gives: so many bytes in front, if any, and behind them pieces of at most
+/// this size.
 #[derive(Clone, Copy, Debug)]
-pub enum Cut {
-    Whole,
-    /// At most so many bytes at each read.
-    Pieces(usize),
-    /// So many bytes, and then the others.
-    Halves(usize),
+pub struct Cut {
+    pub front: usize,
+    pub size: usize,
 }
+
+/// One piece.
+pub const WHOLE: Cut = Cut {
+    front: 0,
+    size: 1_000_000_000,
+};
 
 // Up to how many bytes an input is cut in every way.
 const SHORT: usize = 300;
 
-/// The ways in which an input of so many bytes is cut, the first of them not at all: a short one in pieces of every size, single bytes
-/// among them, and in any two halves.
+/// The ways in which an input of so many bytes is cut, the first of them not at all: a short one in
+/// pieces of every size, single bytes among them, and in any two halves.
 pub fn cuts(alloc: Global, size: usize) -> Result<Vec<Cut>, Unable> {
-    let mut cuts = vec![in alloc; Cut::Whole]?;
+    let mut cuts = Vec::new(alloc);
+    cuts.push(WHOLE)?;
     if size > SHORT {
-        cuts.push(Cut::Pieces(1000))?;
+        let long = Cut {
+            front: 0,
+            size: 1000,
+        };
+        cuts.push(long)?;
         return Ok(cuts);
     }
     for count in 1..=size {
-        cuts.push(Cut::Pieces(count))?;
-        cuts.push(Cut::Halves(count))?;
+        let pieces = Cut {
+            front: 0,
+            size: count,
+        };
+        let halves = Cut {
+            front: count,
+            size: SHORT,
+        };
+        cuts.push(pieces)?;
+        cuts.push(halves)?;
     }
     Ok(cuts)
 }
@@ -50,11 +67,9 @@ impl<'a> CutSource<'a> {
     fn room(&self, len: usize) -> usize
         ensures { result ≤ len }
     {
-        match self.cut {
-            Cut::Whole | Cut::Halves(0) => len,
-            Cut::Pieces(size) => len.min(size.max(1)),
-            Cut::Halves(front) => len.min(front),
-        }
+        let Cut { front, size } = self.cut;
+        let most = if front > 0 { front } else { size };
+        if most < len { most } else { len }
     }
 }
 
@@ -68,9 +83,7 @@ impl<'a> Source for CutSource<'a> {
         let (front, rest) = self.left.split_at(count);
         buf[..count].copy_from_slice(front);
         self.left = rest;
-        if let Cut::Halves(front) = self.cut {
-            self.cut = Cut::Halves(front.saturating_sub(count));
-        }
+        self.cut.front = self.cut.front.saturating_sub(count);
         Ok(count)
     }
 }

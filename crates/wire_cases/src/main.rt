@@ -7,8 +7,6 @@ mod cutting;
 mod fronts;
 mod sessions;
 mod telling;
-mod visiting;
-mod words;
 mod writing;
 
 use calls::Calls;
@@ -25,15 +23,10 @@ fn main(rt: HostRuntime) -> Result<(), Unable> {
 
 // Single calls of the reader.
 fn run_calls(rt: &(impl Files + Print + AllocGlobal)) -> Result<(), Unable> {
-    for file in [
-        "reader_values",
-        "reader_heads",
-        "reader_passed",
-        "reader_messages",
-    ] {
-        run_table(rt, file, &Calls)?;
-    }
-    Ok(())
+    run_table(rt, "reader_values", &Calls)?;
+    run_table(rt, "reader_heads", &Calls)?;
+    run_table(rt, "reader_passed", &Calls)?;
+    run_table(rt, "reader_messages", &Calls)
 }
 
 // Whole sessions, and what is written.

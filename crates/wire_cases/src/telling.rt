@@ -1,112 +1,90 @@
 //! Sessions, told in words: of each message its name, kind, sequence id and the pieces of its argument
 //! struct, and then how the input ends.
 
+use cat_values::Text;
+use std::alloc::Global;
 use table_cases::Unable;
+use thrift_binary::numbers::long_of;
 use thrift_binary::{Head, WireFault};
 use thrift_plain::{PlainMessage, Token};
 
 // From how many bytes a text, and from how many pieces an argument struct is told by its size.
 const MANY: usize = 60;
 
-/// A text that isn't too long to be told.
-pub fn brief(text: &str) -> Option<&str> {
-    if text.len() > MANY { None } else { Some(text) }
-}
-
-/// How much is told of a message.
-#[derive(Clone, Copy, PartialEq, Eq)]
-pub enum Detail {
-    /// Its form, head and argument struct.
-    Form,
-    /// Its head and argument struct.
-    Pieces,
-    /// Its head alone, however long its name is.
-    Head,
-}
-
-/// Adds what is told of a message.
-pub fn tell_message(
-    words: &mut String,
-    message: &PlainMessage,
-    detail: Detail,
-) -> Result<(), Unable> {
-    match detail {
-        Detail::Form => {
-            words.push_str(if message.strict { "strict " } else { "old " })?;
-            tell_whole(words, message)?;
-        }
-        Detail::Pieces => tell_whole(words, message)?,
-        Detail::Head => tell_head(words, &message.head, message.head.name.as_str())?,
-    }
-    words.push_str("; ")?;
-    Ok(())
-}
-
-// The head, and the pieces of the argument struct.
-fn tell_whole(words: &mut String, message: &PlainMessage) -> Result<(), Unable> {
-    let name = brief(message.head.name.as_str()).unwrap_or("(long)");
-    tell_head(words, &message.head, name)?;
-    tell_pieces(words, message.arguments.as_slice())
-}
-
-// A head, by this name.
-fn tell_head(words: &mut String, head: &Head, name: &str) -> Result<(), Unable> {
+/// A message: its form, its head and the pieces of its argument struct.
+pub fn told_message(alloc: Global, message: &PlainMessage) -> Result<String, Unable> {
+    let form = if message.strict { "strict" } else { "old" };
+    let head = &message.head;
+    let name = head.name.as_str();
+    let name = if name.len() > MANY { "(long)" } else { name };
     let (kind, sequence) = (head.kind, head.sequence);
-    write!(words, "{name} {kind} {sequence}")?;
-    Ok(())
+    let mut words = format!(in alloc; "{form} {name} {kind} {sequence}")?;
+    tell_pieces(alloc, message.arguments.as_slice(), &mut words)?;
+    words.push_str("; ")?;
+    Ok(words)
 }
 
-fn tell_pieces(words: &mut String, pieces: &[Token]) -> Result<(), Unable> {
+/// The head of a message, however long its name is.
+pub fn told_head(alloc: Global, head: &Head) -> Result<String, Unable> {
+    let (name, kind, sequence) = (head.name.as_str(), head.kind, head.sequence);
+    Ok(format!(in alloc; "{name} {kind} {sequence}")?)
+}
+
+// Adds the pieces of an argument struct, or how many they are.
+fn tell_pieces(alloc: Global, pieces: &[Token], words: &mut String) -> Result<(), Unable> {
     let count = pieces.len();
     if count > MANY {
-        write!(words, " {count} pieces")?;
+        words.push_str(format!(in alloc; " {count} pieces")?.as_str())?;
         return Ok(());
     }
     for piece in pieces {
-        tell_piece(words, piece)?;
+        words.push_str(told_piece(alloc, piece)?.as_str())?;
     }
     Ok(())
 }
 
-fn tell_piece(words: &mut String, piece: &Token) -> Result<(), Unable> {
-    match piece {
-        Token::Field(ty, id) => write!(words, " {ty}@{id}")?,
-        Token::Stop => write!(words, " stop")?,
-        Token::Flag(value) => write!(words, " {value}")?,
-        Token::Byte(value) => write!(words, " byte {value}")?,
-        Token::Short(value) => write!(words, " short {value}")?,
-        Token::Int(value) => write!(words, " int {value}")?,
-        Token::Long(value) => write!(words, " long {value}")?,
-        Token::Eight(value) => {
-            let number = u64::from_be_bytes(*value);
-            write!(words, " eight {number}")?
-        }
-        Token::Text(value) => tell_text(words, value.as_slice())?,
-        Token::List(ty, count) => write!(words, " list {ty} {count}")?,
-        Token::Map(key, value, count) => write!(words, " map {key} {value} {count}")?,
-    }
-    Ok(())
+fn told_piece(alloc: Global, piece: &Token) -> Result<String, Unable> {
+    Ok(match piece {
+        Token::Field(ty, id) => format!(in alloc; " {ty}@{id}")?,
+        Token::Stop => format!(in alloc; " stop")?,
+        Token::Flag(value) => format!(in alloc; " {value}")?,
+        Token::Byte(value) => format!(in alloc; " byte {value}")?,
+        Token::Short(value) => format!(in alloc; " short {value}")?,
+        Token::Int(value) => format!(in alloc; " int {value}")?,
+        Token::Long(value) => format!(in alloc; " long {value}")?,
+        Token::Eight(value) => told_eight(alloc, value)?,
+        Token::Text(value) => told_text(alloc, value.as_slice())?,
+        Token::List(ty, count) => format!(in alloc; " list {ty} {count}")?,
+        Token::Map(key, value, count) => format!(in alloc; " map {key} {value} {count}")?,
+    })
+}
+
+// Eight bytes, as the number that they are.
+fn told_eight(alloc: Global, bytes: &[u8; 8]) -> Result<String, Unable> {
+    let number = long_of(bytes);
+    Ok(format!(in alloc; " eight {number}")?)
 }
 
 // A text; one that is long or no text by its size.
-fn tell_text(words: &mut String, bytes: &[u8]) -> Result<(), Unable> {
+fn told_text(alloc: Global, bytes: &[u8]) -> Result<String, Unable> {
     let size = bytes.len();
-    match std::str::from_utf8(bytes) {
-        Ok(text) if size <= MANY => write!(words, " text {text}")?,
-        _ => write!(words, " bytes {size}")?,
+    if size <= MANY
+        && let Some(text) = Text::from_utf8(bytes.to_vec(alloc)?)
+    {
+        let text = text.as_str();
+        return Ok(format!(in alloc; " text {text}")?);
     }
-    Ok(())
+    Ok(format!(in alloc; " bytes {size}")?)
 }
 
-/// Adds how the input ends.
-pub fn tell_end(words: &mut String, end: Option<WireFault>) -> Result<(), Unable> {
-    match end {
-        None => write!(words, "boundary")?,
-        Some(WireFault::Truncated(at)) => write!(words, "truncated at {at}")?,
-        Some(WireFault::BadWire(code, at)) => write!(words, "bad {code} at {at}")?,
-        Some(WireFault::TooLarge(at)) => write!(words, "too large at {at}")?,
-        Some(WireFault::ReadFault) => write!(words, "read fault")?,
-        Some(WireFault::NoMemory) => write!(words, "out of memory")?,
-    }
-    Ok(())
+/// How the input ends.
+pub fn told_end(alloc: Global, end: Option<WireFault>) -> Result<String, Unable> {
+    Ok(match end {
+        None => format!(in alloc; "boundary")?,
+        Some(WireFault::Truncated(at)) => format!(in alloc; "truncated at {at}")?,
+        Some(WireFault::BadWire(code, at)) => format!(in alloc; "bad {code} at {at}")?,
+        Some(WireFault::TooLarge(at)) => format!(in alloc; "too large at {at}")?,
+        Some(WireFault::ReadFault) => format!(in alloc; "read fault")?,
+        Some(WireFault::NoMemory) => format!(in alloc; "out of memory")?,
+    })
 }

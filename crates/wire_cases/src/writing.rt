@@ -1,137 +1,85 @@
-//! What is written. An input is a message in the words in which sessions are told.
+//! What is written. An input is `call` or `reply` and the bytes of a call, in whatever spelling, which the
+//! plain decoder takes to pieces.
 
-use crate::cutting::Cut;
-use crate::sessions::read;
-use crate::telling::Detail;
-use crate::words::Words;
-use cat_values::Text;
+use crate::sessions::told;
+use cat_values::{TEXT_LIMIT, Text};
 use hms_outside::MemSink;
 use std::alloc::Global;
-use table_cases::{Answers, Unable, digits_of};
-use thrift_binary::{Head, WireWriter};
+use table_cases::{Answers, Unable, bytes_of, digits_of};
+use thrift_binary::{COUNT_LIMIT, WireWriter};
+use thrift_plain::{PlainMessage, Token, plain};
 
-/// The bytes of a message, and whether they are read back, value by value, as that message; if not, what
-/// is read.
+/// The bytes that are written of a message piece by piece, or of a reply with the same pieces; and what
+/// is read of them.
 pub struct Written;
 
 impl Answers for Written {
     fn answer(&self, alloc: Global, input: &str) -> Result<String, Unable> {
-        let bytes = bytes_written(alloc, input)?;
+        let (form, digits) = input.split_once(' ').ok_or(Unable::Form)?;
+        let bytes = rewritten(alloc, &bytes_of(alloc, digits)?, form == "reply")?;
         let digits = digits_of(alloc, &bytes)?;
-        let read = read(alloc, &bytes, Cut::Whole, Detail::Pieces)?;
-        Ok(match read.as_str().strip_suffix("; boundary") {
-            Some(words) if words == input => format!(in alloc; "{digits}; read back")?,
-            _ => format!(in alloc; "{digits}; {read}")?,
-        })
+        let told = told(alloc, &bytes)?;
+        Ok(format!(in alloc; "{digits}; {told}")?)
     }
 }
 
-// The bytes of a message.
-fn bytes_written(alloc: Global, input: &str) -> Result<Vec<u8>, Unable> {
-    let mut writer = WireWriter::new(alloc);
-    gather(alloc, &mut writer, input)?;
+// What is written of the messages that bytes spell.
+fn rewritten(alloc: Global, bytes: &[u8], as_replies: bool) -> Result<Vec<u8>, Unable> {
     let mut sink = MemSink::new(alloc, Vec::new(alloc));
-    match writer.send(&mut sink) {
-        Ok(()) => Ok(sink.bytes().to_vec(alloc)?),
-        Err(_) => Err(Unable::NoMemory),
+    let mut writer = WireWriter::new(alloc);
+    let (messages, _) = plain(alloc, bytes)?;
+    for message in messages.as_slice() {
+        gather(alloc, &mut writer, message, as_replies)?;
+        if writer.send(&mut sink).is_err() {
+            return Err(Unable::NoMemory);
+        }
     }
+    Ok(sink.bytes().to_vec(alloc)?)
 }
 
 // Gathers a message.
-fn gather(alloc: Global, writer: &mut WireWriter, input: &str) -> Result<(), Unable> {
-    let mut words = Words::new(input);
-    gather_head(alloc, writer, &mut words)?;
-    for _ in 0..input.len() {
-        if words.is_empty() {
-            break;
-        }
-        gather_piece(alloc, writer, &mut words)?;
-    }
-    Ok(())
-}
-
-// Gathers a head: a name, a kind and a sequence id; or the head of a reply, with `reply` before them.
-fn gather_head(
+fn gather(
     alloc: Global,
     writer: &mut WireWriter,
-    words: &mut Words<'_>,
+    message: &PlainMessage,
+    as_reply: bool,
 ) -> Result<(), Unable> {
-    let first = words.word()?;
-    let is_reply = first == "reply";
-    let name = if is_reply { words.word()? } else { first };
-    let kind = words.number::<u8>()?;
-    let sequence = words.number::<i32>()?;
-    let name = Text::of(alloc, name)?;
-    if is_reply {
-        let head = Head {
-            name,
-            kind: 1,
-            sequence,
-        };
-        writer.reply_head(&head, kind)?;
+    if as_reply {
+        writer.reply_head(&message.head, 2)?;
     } else {
-        writer.head(&Head {
-            name,
-            kind,
-            sequence,
-        })?;
+        writer.head(&message.head)?;
+    }
+    for piece in message.arguments.as_slice() {
+        gather_piece(alloc, writer, piece)?;
     }
     Ok(())
 }
 
 // Gathers a piece of an argument struct.
-fn gather_piece(
-    alloc: Global,
-    writer: &mut WireWriter,
-    words: &mut Words<'_>,
-) -> Result<(), Unable> {
-    let word = words.word()?;
-    if let Some((ty, id)) = word.split_once('@') {
-        let ty = ty.parse::<u8>().or(Err(Unable::Form))?;
-        let id = id.parse::<i16>().or(Err(Unable::Form))?;
-        writer.field(ty, id)?;
-        return Ok(());
-    }
-    match word {
-        "stop" => writer.stop()?,
-        "true" => writer.flag(true)?,
-        "false" => writer.flag(false)?,
-        "text" => writer.text(&Text::of(alloc, words.word()?)?)?,
-        "list" => gather_list(writer, words)?,
-        "map" => gather_map(writer, words)?,
-        _ => gather_number(writer, word, words)?,
+fn gather_piece(alloc: Global, writer: &mut WireWriter, piece: &Token) -> Result<(), Unable> {
+    match piece {
+        Token::Field(ty, id) => writer.field(*ty, *id)?,
+        Token::Stop => writer.stop()?,
+        Token::Flag(value) => writer.flag(*value)?,
+        Token::Byte(value) => writer.byte(*value)?,
+        Token::Short(value) => writer.short(*value)?,
+        Token::Int(value) => writer.int(*value)?,
+        Token::Long(value) => writer.long(*value)?,
+        Token::Eight(value) => writer.eight(*value)?,
+        Token::Text(value) => gather_text(alloc, writer, value.as_slice())?,
+        Token::List(ty, count) => writer.list(*ty, (*count).min(COUNT_LIMIT))?,
+        Token::Map(key, value, count) => writer.map(*key, *value, (*count).min(COUNT_LIMIT))?,
     }
     Ok(())
 }
 
-fn gather_list(writer: &mut WireWriter, words: &mut Words<'_>) -> Result<(), Unable> {
-    let ty = words.number::<u8>()?;
-    let count = words.number::<u16>()?;
-    writer.list(ty, u32::from(count))?;
-    Ok(())
-}
-
-fn gather_map(writer: &mut WireWriter, words: &mut Words<'_>) -> Result<(), Unable> {
-    let key = words.number::<u8>()?;
-    let value = words.number::<u8>()?;
-    let count = words.number::<u16>()?;
-    writer.map(key, value, u32::from(count))?;
-    Ok(())
-}
-
-// Gathers a number, whose width a word tells.
-fn gather_number(
-    writer: &mut WireWriter,
-    width: &str,
-    words: &mut Words<'_>,
-) -> Result<(), Unable> {
-    match width {
-        "byte" => writer.byte(words.number::<i8>()?)?,
-        "short" => writer.short(words.number::<i16>()?)?,
-        "int" => writer.int(words.number::<i32>()?)?,
-        "long" => writer.long(words.number::<i64>()?)?,
-        "eight" => writer.eight(words.number::<u64>()?.to_be_bytes())?,
-        _ => return Err(Unable::Form),
+// Gathers a text.
+fn gather_text(alloc: Global, writer: &mut WireWriter, bytes: &[u8]) -> Result<(), Unable> {
+    if bytes.len() > TEXT_LIMIT {
+        return Err(Unable::Form);
     }
-    Ok(())
+    match Text::from_utf8(bytes.to_vec(alloc)?) {
+        Some(text) => Ok(writer.text(&text)?),
+        None => Err(Unable::Form),
+    }
 }
