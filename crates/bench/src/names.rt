@@ -2,8 +2,9 @@
 
 ghost use Rattle.std.specs.Prelude.{◌≡◌, ◌≤◌, All, length};
 ghost use Rattle.std.specs.Bool.{OnTrue};
-ghost use Rattle.part_names.specs.Making.{IsObjectName, IsValidValue};
-ghost use Rattle.part_names.specs.declared.TheConstants.{KEYS_LIMIT};
+ghost use Rattle.cat_values.specs.Names.{IsObjectName};
+ghost use Rattle.part_names.specs.Making.{IsValidValue};
+ghost use Rattle.cat_values.specs.declared.columns.TheConstants.{KEYS_LIMIT};
 
 use crate::samples::texts_of;
 use crate::stop::Stop;

@@ -1,3 +1,4 @@
-pub mod Names
 pub mod Patterns
 pub mod Tables
+-- what `object_name` promises
+pub use Rattle.cat_values.specs.Names

@@ -4,7 +4,7 @@ use Rattle.std.specs.Prelude.{◌≢◌, ℕ, ◌≤◌, nat_le, Bool, true, not
 use Rattle.std.specs.List.{list_all, list_any}
 use Rattle.std.specs.Str.{bytes_eq}
 use Rattle.cat_values.specs.declared.storage.Column.{Column}
-use Rattle.cat_rules.specs.Names.{HasNameLength, IsObjectName, has_name_length, is_object_name}
+use Rattle.cat_values.specs.Names.{HasNameLength, IsObjectName, has_name_length, is_object_name}
 
 -- the names of columns, in their order
 abbrev pub names_of : List Column → List (List ℕ)

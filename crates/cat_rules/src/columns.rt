@@ -3,13 +3,9 @@
 ghost use Rattle.std.specs.Prelude.{◌≡◌, ◌↔◌, IsTrue, IfOk};
 ghost use Rattle.cat_rules.specs.Tables.{AreApart, AreNamed, FitTogether, do_fit_together};
 
-use crate::names::{has_name_length, object_name};
-use cat_values::{Column, Columns, NoMemory};
+use cat_values::{Column, Columns, KEYS_LIMIT, NoMemory, has_name_length, object_name};
 use std::alloc::Global;
 use std::collections::BTreeSet;
-
-/// How many partition keys a table has at most.
-pub const KEY_LIMIT: usize = 16;
 
 /// Whether a table may have these columns and partition keys: each column has a name of 1 to 128
 /// bytes, each key is named as an object is, there are at most 16 keys, and no two names of
@@ -37,7 +33,7 @@ fn fit_together(alloc: Global, cols: &[Column], keys: &[Column]) -> Result<bool,
 fn are_named(cols: &[Column], keys: &[Column]) -> bool
     ensures { IsTrue result ↔ AreNamed cols.now keys.now }
 {
-    keys.len() <= KEY_LIMIT
+    keys.len() <= KEYS_LIMIT
         && cols.iter().all(|col| has_name_length(&col.name))
         && keys.iter().all(|key| object_name(&key.name))
 }

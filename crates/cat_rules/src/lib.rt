@@ -3,9 +3,8 @@
 #![tactic(auto)]
 
 mod columns;
-mod names;
 mod patterns;
 
-pub use columns::{KEY_LIMIT, columns_rule};
-pub use names::{NAME_LIMIT, object_name};
+pub use cat_values::{KEYS_LIMIT, NAME_LIMIT, object_name};
+pub use columns::columns_rule;
 pub use patterns::matches;

@@ -16,6 +16,7 @@ use Rattle.cat_types.specs.declared.replicas.Phase.TheVariants as phase
 use Rattle.change_codec.specs.declared.entry.Entry.{Entry}
 use Rattle.change_codec.specs.declared.entry.Entry.TheVariants as entry
 use Rattle.change_codec.specs.Forms.{flag, list_of, number, optional, signed, tagged_read, text}
+use Rattle.change_codec.specs.declared.version.Version.{Version}
 use Rattle.change_codec.specs.Records.{a_phase, an_entry, an_item, change, column, db_item, db_rec, drop_part, drop_table, entry_code, entry_fits, entry_tags, event, event_kind, item_code, item_fits, item_tags, kind_code, kind_tags, load_step, marked, move_part, move_table, op_code, op_fits, op_tags, operation, order, params, part_item, part_rec, phase_code, phase_fits, phase_tags, places, put_part, put_table, replica_row, serde, skew, stat_code, stat_fits, stat_flags, stat_long, stat_rec, stat_str, stat_tags, stat_value, stats, storage, table_item, table_rec, texts, two_numbers}
 use Rattle.change_codec.proofs.Numbers.{IsLawful, bytes-lawful, flag-lawful, number-lawful, signed-lawful, text-lawful, wide32, wide64}
 use Rattle.change_codec.proofs.Signs.{signs32, signs64}
@@ -63,8 +64,8 @@ storage-lawful = made-lawful _ _ _
     (four-lawful _ _ _ _ (list-lawful order order-lawful) params-lawful (optional-lawful skew skew-lawful) (optional-lawful flag flag-lawful)))
     (λ _. refl) (λ _. refl)
 
-db_rec-lawful : IsLawful db_rec
-db_rec-lawful = made-lawful _ _ _ (four-lawful _ _ _ _ some_text some_text params-lawful some_text) (λ _. refl) (λ _. refl)
+db_rec-lawful : (version : Version) → IsLawful (db_rec version)
+db_rec-lawful version = made-lawful _ _ _ (four-lawful _ _ _ _ some_text some_text params-lawful some_text) (λ _. refl) (λ _. refl)
 
 stat_flags-lawful : IsLawful stat_flags
 stat_flags-lawful = three-lawful _ _ _ i64-lawful i64-lawful i64-lawful
@@ -99,8 +100,8 @@ stat_rec-lawful = made-lawful _ _ _ (then-lawful (signed w64) stat_value i64-law
 stats-lawful : IsLawful stats
 stats-lawful = map-lawful (slice_cmp nat_cmp) nat_list_cmp_total text stat_rec text-lawful stat_rec-lawful
 
-table_rec-lawful : IsLawful table_rec
-table_rec-lawful = made-lawful _ _ _
+table_rec-lawful : (version : Version) → IsLawful (table_rec version)
+table_rec-lawful version = made-lawful _ _ _
     (three-lawful _ _ _
     (four-lawful _ _ _ _ some_text i32-lawful i32-lawful i32-lawful)
     (four-lawful _ _ _ _ storage-lawful (list-lawful column column-lawful) params-lawful some_text)
@@ -112,14 +113,14 @@ part_rec-lawful = made-lawful _ _ _
     (then-lawful _ _ (then-lawful _ _ i32-lawful i32-lawful) (three-lawful _ _ _ (optional-lawful storage storage-lawful) params-lawful stats-lawful))
     (λ _. refl) (λ _. refl)
 
-put_table-lawful : IsLawful put_table
-put_table-lawful = three-lawful _ _ _ text-lawful u64-lawful table_rec-lawful
+put_table-lawful : (version : Version) → IsLawful (put_table version)
+put_table-lawful version = three-lawful _ _ _ text-lawful u64-lawful (table_rec-lawful version)
 
 drop_table-lawful : IsLawful drop_table
 drop_table-lawful = then-lawful _ _ text-lawful u64-lawful
 
-move_table-lawful : IsLawful move_table
-move_table-lawful = four-lawful _ _ _ _ text-lawful u64-lawful text-lawful table_rec-lawful
+move_table-lawful : (version : Version) → IsLawful (move_table version)
+move_table-lawful version = four-lawful _ _ _ _ text-lawful u64-lawful text-lawful (table_rec-lawful version)
 
 put_part-lawful : IsLawful put_part
 put_part-lawful = four-lawful _ _ _ _ text-lawful u64-lawful texts-lawful part_rec-lawful
@@ -130,35 +131,35 @@ drop_part-lawful = three-lawful _ _ _ text-lawful u64-lawful texts-lawful
 move_part-lawful : IsLawful move_part
 move_part-lawful = then-lawful _ _ (then-lawful _ _ text-lawful u64-lawful) (three-lawful _ _ _ texts-lawful texts-lawful part_rec-lawful)
 
-op_again : (v : Op) (rest : List ℕ) → op_fits v → tagged_read op_tags (op_code v ++ rest) ≡ Ok (v, rest)
+op_again : (version : Version) (v : Op) (rest : List ℕ) → op_fits version v → tagged_read (op_tags version) (op_code version v ++ rest) ≡ Ok (v, rest)
 unfolding tagged_read
-op_again (op.PutDb rec) rest f = made_again _ db_rec db_rec-lawful rec rest f
-op_again op.DropDb rest f = refl
-op_again (op.PutTable table born rec) rest f = made_again _ put_table put_table-lawful (table, born, rec) rest f
-op_again (op.DropTable table born) rest f = made_again _ drop_table drop_table-lawful (table, born) rest f
-op_again (op.MoveTable table born to rec) rest f = made_again _ move_table move_table-lawful (table, born, to, rec) rest f
-op_again (op.PutPart table born values rec) rest f = made_again _ put_part put_part-lawful (table, born, values, rec) rest f
-op_again (op.DropPart table born values) rest f = made_again _ drop_part drop_part-lawful (table, born, values) rest f
-op_again (op.MovePart table born values to rec) rest f = made_again _ move_part move_part-lawful ((table, born), (values, to, rec)) rest f
+op_again version (op.PutDb rec) rest f = made_again _ (db_rec version) (db_rec-lawful version) rec rest f
+op_again version op.DropDb rest f = refl
+op_again version (op.PutTable table born rec) rest f = made_again _ (put_table version) (put_table-lawful version) (table, born, rec) rest f
+op_again version (op.DropTable table born) rest f = made_again _ drop_table drop_table-lawful (table, born) rest f
+op_again version (op.MoveTable table born to rec) rest f = made_again _ (move_table version) (move_table-lawful version) (table, born, to, rec) rest f
+op_again version (op.PutPart table born values rec) rest f = made_again _ put_part put_part-lawful (table, born, values, rec) rest f
+op_again version (op.DropPart table born values) rest f = made_again _ drop_part drop_part-lawful (table, born, values) rest f
+op_again version (op.MovePart table born values to rec) rest f = made_again _ move_part move_part-lawful ((table, born), (values, to, rec)) rest f
 
-pub operation-lawful : IsLawful operation
-operation-lawful = record {
-  again = op_again;
-  spelled = tagged_spelled op_fits op_code op_tags (
-    variant op_fits op_code 1 _ db_rec db_rec-lawful (λ _. refl) (λ _ f. f),
+pub operation-lawful : (version : Version) → IsLawful (operation version)
+operation-lawful version = record {
+  again = op_again version;
+  spelled = tagged_spelled (op_fits version) (op_code version) (op_tags version) (
+    variant (op_fits version) (op_code version) 1 _ (db_rec version) (db_rec-lawful version) (λ _. refl) (λ _ f. f),
     (
-      lone op_fits op_code 2 op.DropDb refl tt,
+      lone (op_fits version) (op_code version) 2 op.DropDb refl tt,
       (
-        variant op_fits op_code 3 _ put_table put_table-lawful (λ _. refl) (λ _ f. f),
+        variant (op_fits version) (op_code version) 3 _ (put_table version) (put_table-lawful version) (λ _. refl) (λ _ f. f),
         (
-          variant op_fits op_code 4 _ drop_table drop_table-lawful (λ _. refl) (λ _ f. f),
+          variant (op_fits version) (op_code version) 4 _ drop_table drop_table-lawful (λ _. refl) (λ _ f. f),
           (
-            variant op_fits op_code 5 _ move_table move_table-lawful (λ _. refl) (λ _ f. f),
+            variant (op_fits version) (op_code version) 5 _ (move_table version) (move_table-lawful version) (λ _. refl) (λ _ f. f),
             (
-              variant op_fits op_code 6 _ put_part put_part-lawful (λ _. refl) (λ _ f. f),
+              variant (op_fits version) (op_code version) 6 _ put_part put_part-lawful (λ _. refl) (λ _ f. f),
               (
-                variant op_fits op_code 7 _ drop_part drop_part-lawful (λ _. refl) (λ _ f. f),
-                (variant op_fits op_code 8 _ move_part move_part-lawful (λ _. refl) (λ _ f. f), tt),
+                variant (op_fits version) (op_code version) 7 _ drop_part drop_part-lawful (λ _. refl) (λ _ f. f),
+                (variant (op_fits version) (op_code version) 8 _ move_part move_part-lawful (λ _. refl) (λ _ f. f), tt),
               ),
             ),
           ),
@@ -210,44 +211,44 @@ event_kind-lawful = record {
   );
 }
 
-change-lawful : IsLawful change
-change-lawful = made-lawful _ _ _ (four-lawful _ _ _ _ event_kind-lawful text-lawful u64-lawful (list-lawful operation operation-lawful)) (λ _. refl) (λ _. refl)
+change-lawful : (version : Version) → IsLawful (change version)
+change-lawful version = made-lawful _ _ _ (four-lawful _ _ _ _ event_kind-lawful text-lawful u64-lawful (list-lawful (operation version) (operation-lawful version))) (λ _. refl) (λ _. refl)
 
-pub event-lawful : IsLawful event
-event-lawful = made-lawful _ _ _ (three-lawful _ _ _ u64-lawful u64-lawful change-lawful) (λ _. refl) (λ _. refl)
+pub event-lawful : (version : Version) → IsLawful (event version)
+event-lawful version = made-lawful _ _ _ (three-lawful _ _ _ u64-lawful u64-lawful (change-lawful version)) (λ _. refl) (λ _. refl)
 
-pub events-lawful : IsLawful (list_of event)
-events-lawful = list-lawful event event-lawful
+pub events-lawful : (version : Version) → IsLawful (list_of (event version))
+events-lawful version = list-lawful (event version) (event-lawful version)
 
-db_item-lawful : IsLawful db_item
-db_item-lawful = three-lawful _ _ _ u64-lawful u64-lawful db_rec-lawful
+db_item-lawful : (version : Version) → IsLawful (db_item version)
+db_item-lawful version = three-lawful _ _ _ u64-lawful u64-lawful (db_rec-lawful version)
 
-table_item-lawful : IsLawful table_item
-table_item-lawful = four-lawful _ _ _ _ u64-lawful text-lawful u64-lawful table_rec-lawful
+table_item-lawful : (version : Version) → IsLawful (table_item version)
+table_item-lawful version = four-lawful _ _ _ _ u64-lawful text-lawful u64-lawful (table_rec-lawful version)
 
 part_item-lawful : IsLawful part_item
 part_item-lawful = then-lawful _ _ (then-lawful _ _ u64-lawful text-lawful) (three-lawful _ _ _ u64-lawful texts-lawful part_rec-lawful)
 
-item_again : (v : Item) (rest : List ℕ) → item_fits v → tagged_read item_tags (item_code v ++ rest) ≡ Ok (v, rest)
+item_again : (version : Version) (v : Item) (rest : List ℕ) → item_fits version v → tagged_read (item_tags version) (item_code version v ++ rest) ≡ Ok (v, rest)
 unfolding tagged_read
-item_again (item.Db at born rec) rest f = made_again _ db_item db_item-lawful (at, born, rec) rest f
-item_again (item.Table at table born rec) rest f = made_again _ table_item table_item-lawful (at, table, born, rec) rest f
-item_again (item.Part at table born values rec) rest f = made_again _ part_item part_item-lawful ((at, table), (born, values, rec)) rest f
+item_again version (item.Db at born rec) rest f = made_again _ (db_item version) (db_item-lawful version) (at, born, rec) rest f
+item_again version (item.Table at table born rec) rest f = made_again _ (table_item version) (table_item-lawful version) (at, table, born, rec) rest f
+item_again version (item.Part at table born values rec) rest f = made_again _ part_item part_item-lawful ((at, table), (born, values, rec)) rest f
 
-pub item-lawful : IsLawful an_item
-item-lawful = record {
-  again = item_again;
-  spelled = tagged_spelled item_fits item_code item_tags (
-    variant item_fits item_code 1 _ db_item db_item-lawful (λ _. refl) (λ _ f. f),
+pub item-lawful : (version : Version) → IsLawful (an_item version)
+item-lawful version = record {
+  again = item_again version;
+  spelled = tagged_spelled (item_fits version) (item_code version) (item_tags version) (
+    variant (item_fits version) (item_code version) 1 _ (db_item version) (db_item-lawful version) (λ _. refl) (λ _ f. f),
     (
-      variant item_fits item_code 2 _ table_item table_item-lawful (λ _. refl) (λ _ f. f),
-      (variant item_fits item_code 3 _ part_item part_item-lawful (λ _. refl) (λ _ f. f), tt),
+      variant (item_fits version) (item_code version) 2 _ (table_item version) (table_item-lawful version) (λ _. refl) (λ _ f. f),
+      (variant (item_fits version) (item_code version) 3 _ part_item part_item-lawful (λ _. refl) (λ _ f. f), tt),
     ),
   );
 }
 
-pub items-lawful : IsLawful (list_of an_item)
-items-lawful = list-lawful an_item item-lawful
+pub items-lawful : (version : Version) → IsLawful (list_of (an_item version))
+items-lawful version = list-lawful (an_item version) (item-lawful version)
 
 two_numbers-lawful : IsLawful two_numbers
 two_numbers-lawful = then-lawful _ _ u64-lawful u64-lawful
@@ -273,29 +274,29 @@ phase-lawful = record {
 replica_row-lawful : IsLawful replica_row
 replica_row-lawful = made-lawful _ _ _ (three-lawful _ _ _ (bytes-lawful 16) text-lawful phase-lawful) (λ _. refl) (λ _. refl)
 
-marked-lawful : IsLawful marked
-marked-lawful = made-lawful _ _ _ (three-lawful _ _ _ u64-lawful u64-lawful operation-lawful) (λ _. refl) (λ _. refl)
+marked-lawful : (version : Version) → IsLawful (marked version)
+marked-lawful version = made-lawful _ _ _ (three-lawful _ _ _ u64-lawful u64-lawful (operation-lawful version)) (λ _. refl) (λ _. refl)
 
-load_step-lawful : IsLawful load_step
-load_step-lawful = four-lawful _ _ _ _ text-lawful replica_row-lawful flag-lawful (list-lawful marked marked-lawful)
+load_step-lawful : (version : Version) → IsLawful (load_step version)
+load_step-lawful version = four-lawful _ _ _ _ text-lawful replica_row-lawful flag-lawful (list-lawful (marked version) (marked-lawful version))
 
-entry_again : (v : Entry) (rest : List ℕ) → entry_fits v → tagged_read entry_tags (entry_code v ++ rest) ≡ Ok (v, rest)
+entry_again : (version : Version) (v : Entry) (rest : List ℕ) → entry_fits version v → tagged_read (entry_tags version) (entry_code version v ++ rest) ≡ Ok (v, rest)
 unfolding tagged_read
-entry_again (entry.Event kept) rest f = made_again _ event event-lawful kept rest f
-entry_again (entry.DumpBegun dump) rest f = made_again _ (number w64) u64-lawful dump rest f
-entry_again (entry.Trimmed first) rest f = made_again _ (number w64) u64-lawful first rest f
-entry_again (entry.LoadStep target row clear ops) rest f = made_again _ load_step load_step-lawful (target, row, clear, ops) rest f
+entry_again version (entry.Event kept) rest f = made_again _ (event version) (event-lawful version) kept rest f
+entry_again version (entry.DumpBegun dump) rest f = made_again _ (number w64) u64-lawful dump rest f
+entry_again version (entry.Trimmed first) rest f = made_again _ (number w64) u64-lawful first rest f
+entry_again version (entry.LoadStep target row clear ops) rest f = made_again _ (load_step version) (load_step-lawful version) (target, row, clear, ops) rest f
 
-pub entry-lawful : IsLawful an_entry
-entry-lawful = record {
-  again = entry_again;
-  spelled = tagged_spelled entry_fits entry_code entry_tags (
-    variant entry_fits entry_code 1 _ event event-lawful (λ _. refl) (λ _ f. f),
+pub entry-lawful : (version : Version) → IsLawful (an_entry version)
+entry-lawful version = record {
+  again = entry_again version;
+  spelled = tagged_spelled (entry_fits version) (entry_code version) (entry_tags version) (
+    variant (entry_fits version) (entry_code version) 1 _ (event version) (event-lawful version) (λ _. refl) (λ _ f. f),
     (
-      variant entry_fits entry_code 2 _ (number w64) u64-lawful (λ _. refl) (λ _ f. f),
+      variant (entry_fits version) (entry_code version) 2 _ (number w64) u64-lawful (λ _. refl) (λ _ f. f),
       (
-        variant entry_fits entry_code 3 _ (number w64) u64-lawful (λ _. refl) (λ _ f. f),
-        (variant entry_fits entry_code 4 _ load_step load_step-lawful (λ _. refl) (λ _ f. f), tt),
+        variant (entry_fits version) (entry_code version) 3 _ (number w64) u64-lawful (λ _. refl) (λ _ f. f),
+        (variant (entry_fits version) (entry_code version) 4 _ (load_step version) (load_step-lawful version) (λ _. refl) (λ _ f. f), tt),
       ),
     ),
   );

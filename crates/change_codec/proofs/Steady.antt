@@ -4,6 +4,7 @@ use Rattle.std.specs.Cmp.Lexicographic.{slice_cmp}
 use Rattle.std.specs.Int.{w32, w64}
 use Rattle.std.specs.Ordering.{nat_cmp}
 use Rattle.change_codec.specs.Forms.{Form, Reading, list_of, made_read, number, number_read, optional, tagged_read, text, three_read}
+use Rattle.change_codec.specs.declared.version.Version.{Version}
 use Rattle.change_codec.specs.Records.{a_phase, an_entry, an_item, change, column, db_item, db_rec, drop_part, drop_table, entry_tags, event, event_kind, item_tags, kind_tags, load_step, marked, move_part, move_table, op_tags, operation, order, params, part_item, part_rec, phase_tags, places, put_part, put_table, replica_row, serde, skew, stat_flags, stat_long, stat_rec, stat_str, stat_tags, stat_value, stats, storage, table_item, table_rec, texts, two_numbers}
 use Rattle.change_codec.specs.Whole.{IsCutAtItsEnd, IsReadAgain, IsRefusedInPlace}
 use Rattle.change_codec.proofs.Bind.{ok_is}
@@ -46,8 +47,8 @@ storage-steady = made-steady _ _
     (four-steady _ _ _ _ flag-steady (signed-steady w32) (option-steady _ serde-steady) texts-steady)
     (four-steady _ _ _ _ (list-steady _ order-steady) params-steady (option-steady _ skew-steady) (option-steady _ flag-steady)))
 
-db_rec-steady : Steady db_rec
-db_rec-steady = made-steady _ _ (four-steady _ _ _ _ some_text some_text params-steady some_text)
+db_rec-steady : (version : Version) → Steady (db_rec version)
+db_rec-steady version = made-steady _ _ (four-steady _ _ _ _ some_text some_text params-steady some_text)
 
 stat_flags-steady : Steady stat_flags
 stat_flags-steady = three-steady _ _ _ (signed-steady w64) (signed-steady w64) (signed-steady w64)
@@ -67,8 +68,8 @@ stat_rec-steady = made-steady _ _ (then-steady _ _ (signed-steady w64) stat_valu
 stats-steady : Steady stats
 stats-steady = map-steady (slice_cmp nat_cmp) _ _ text-steady text_none stat_rec-steady
 
-table_rec-steady : Steady table_rec
-table_rec-steady = made-steady _ _
+table_rec-steady : (version : Version) → Steady (table_rec version)
+table_rec-steady version = made-steady _ _
     (three-steady _ _ _
     (four-steady _ _ _ _ some_text (signed-steady w32) (signed-steady w32) (signed-steady w32))
     (four-steady _ _ _ _ storage-steady (list-steady _ column-steady) params-steady some_text)
@@ -78,14 +79,14 @@ part_rec-steady : Steady part_rec
 part_rec-steady = made-steady _ _
     (then-steady _ _ (then-steady _ _ (signed-steady w32) (signed-steady w32)) (three-steady _ _ _ (option-steady _ storage-steady) params-steady stats-steady))
 
-put_table-steady : Steady put_table
-put_table-steady = three-steady _ _ _ text-steady u64-steady table_rec-steady
+put_table-steady : (version : Version) → Steady (put_table version)
+put_table-steady version = three-steady _ _ _ text-steady u64-steady (table_rec-steady version)
 
 drop_table-steady : Steady drop_table
 drop_table-steady = then-steady _ _ text-steady u64-steady
 
-move_table-steady : Steady move_table
-move_table-steady = four-steady _ _ _ _ text-steady u64-steady text-steady table_rec-steady
+move_table-steady : (version : Version) → Steady (move_table version)
+move_table-steady version = four-steady _ _ _ _ text-steady u64-steady text-steady (table_rec-steady version)
 
 put_part-steady : Steady put_part
 put_part-steady = four-steady _ _ _ _ text-steady u64-steady texts-steady part_rec-steady
@@ -96,38 +97,38 @@ drop_part-steady = three-steady _ _ _ text-steady u64-steady texts-steady
 move_part-steady : Steady move_part
 move_part-steady = then-steady _ _ (then-steady _ _ text-steady u64-steady) (three-steady _ _ _ texts-steady texts-steady part_rec-steady)
 
-operation-steady : Steady operation
-operation-steady = tagged-steady op_tags (
-  made-steady _ _ db_rec-steady,
-  (given-steady _, (made-steady _ _ put_table-steady, (made-steady _ _ drop_table-steady, (made-steady _ _ move_table-steady, (made-steady _ _ put_part-steady, (made-steady _ _ drop_part-steady, (made-steady _ _ move_part-steady, tt))))))),
+operation-steady : (version : Version) → Steady (operation version)
+operation-steady version = tagged-steady (op_tags version) (
+  made-steady _ _ (db_rec-steady version),
+  (given-steady _, (made-steady _ _ (put_table-steady version), (made-steady _ _ drop_table-steady, (made-steady _ _ (move_table-steady version), (made-steady _ _ put_part-steady, (made-steady _ _ drop_part-steady, (made-steady _ _ move_part-steady, tt))))))),
 )
 
 event_kind-steady : Steady event_kind
 event_kind-steady = tagged-steady kind_tags (given-steady _, (given-steady _, (given-steady _, (given-steady _, (given-steady _, (given-steady _, (given-steady _, (given-steady _, (given-steady _, tt)))))))))
 
-change-steady : Steady change
-change-steady = made-steady _ _ (four-steady _ _ _ _ event_kind-steady text-steady u64-steady (list-steady _ operation-steady))
+change-steady : (version : Version) → Steady (change version)
+change-steady version = made-steady _ _ (four-steady _ _ _ _ event_kind-steady text-steady u64-steady (list-steady _ (operation-steady version)))
 
-pub event-steady : Steady event
-event-steady = made-steady _ _ (three-steady _ _ _ u64-steady u64-steady change-steady)
+pub event-steady : (version : Version) → Steady (event version)
+event-steady version = made-steady _ _ (three-steady _ _ _ u64-steady u64-steady (change-steady version))
 
-pub events-steady : Steady (list_of event)
-events-steady = list-steady _ event-steady
+pub events-steady : (version : Version) → Steady (list_of (event version))
+events-steady version = list-steady _ (event-steady version)
 
-db_item-steady : Steady db_item
-db_item-steady = three-steady _ _ _ u64-steady u64-steady db_rec-steady
+db_item-steady : (version : Version) → Steady (db_item version)
+db_item-steady version = three-steady _ _ _ u64-steady u64-steady (db_rec-steady version)
 
-table_item-steady : Steady table_item
-table_item-steady = four-steady _ _ _ _ u64-steady text-steady u64-steady table_rec-steady
+table_item-steady : (version : Version) → Steady (table_item version)
+table_item-steady version = four-steady _ _ _ _ u64-steady text-steady u64-steady (table_rec-steady version)
 
 part_item-steady : Steady part_item
 part_item-steady = then-steady _ _ (then-steady _ _ u64-steady text-steady) (three-steady _ _ _ u64-steady texts-steady part_rec-steady)
 
-pub item-steady : Steady an_item
-item-steady = tagged-steady item_tags (made-steady _ _ db_item-steady, (made-steady _ _ table_item-steady, (made-steady _ _ part_item-steady, tt)))
+pub item-steady : (version : Version) → Steady (an_item version)
+item-steady version = tagged-steady (item_tags version) (made-steady _ _ (db_item-steady version), (made-steady _ _ (table_item-steady version), (made-steady _ _ part_item-steady, tt)))
 
-pub items-steady : Steady (list_of an_item)
-items-steady = list-steady _ item-steady
+pub items-steady : (version : Version) → Steady (list_of (an_item version))
+items-steady version = list-steady _ (item-steady version)
 
 two_numbers-steady : Steady two_numbers
 two_numbers-steady = then-steady _ _ u64-steady u64-steady
@@ -138,24 +139,24 @@ phase-steady = tagged-steady phase_tags (made-steady _ _ two_numbers-steady, (ma
 replica_row-steady : Steady replica_row
 replica_row-steady = made-steady _ _ (three-steady _ _ _ (front-steady 16) text-steady phase-steady)
 
-marked-steady : Steady marked
-marked-steady = made-steady _ _ (three-steady _ _ _ u64-steady u64-steady operation-steady)
+marked-steady : (version : Version) → Steady (marked version)
+marked-steady version = made-steady _ _ (three-steady _ _ _ u64-steady u64-steady (operation-steady version))
 
-load_step-steady : Steady load_step
-load_step-steady = four-steady _ _ _ _ text-steady replica_row-steady flag-steady (list-steady _ marked-steady)
+load_step-steady : (version : Version) → Steady (load_step version)
+load_step-steady version = four-steady _ _ _ _ text-steady replica_row-steady flag-steady (list-steady _ (marked-steady version))
 
-pub entry-steady : Steady an_entry
-entry-steady = tagged-steady entry_tags (made-steady _ _ event-steady, (made-steady _ _ u64-steady, (made-steady _ _ u64-steady, (made-steady _ _ load_step-steady, tt))))
+pub entry-steady : (version : Version) → Steady (an_entry version)
+entry-steady version = tagged-steady (entry_tags version) (made-steady _ _ (event-steady version), (made-steady _ _ u64-steady, (made-steady _ _ u64-steady, (made-steady _ _ (load_step-steady version), tt))))
 
 -- no bytes are none of these
 
-pub event_none : event.read [] ≡ Err 0
+pub event_none : (version : Version) → (event version).read [] ≡ Err 0
 unfolding made_read three_read number_read
-event_none = refl
+event_none version = refl
 
-pub item_none : an_item.read [] ≡ Err 0
+pub item_none : (version : Version) → (an_item version).read [] ≡ Err 0
 unfolding tagged_read
-item_none = refl
+item_none version = refl
 
 -- ---- what that says of spellings
 

@@ -1,4 +1,4 @@
 pub mod Forms
+pub mod Tags
 pub mod Records
-pub mod Written
 pub mod Whole

@@ -2,11 +2,18 @@
 
 ghost use Rattle.std.specs.Prelude.{◌≡◌, ◌∷◌, OnOk};
 ghost use Rattle.change_codec.specs.Forms.{made_read};
-ghost use Rattle.change_codec.specs.Records.{change, db_rec, drop_part, drop_table, event, event_kind, kind_code, move_part, move_table, op_code, op_fits, operation, put_part, put_table};
+ghost use Rattle.change_codec.specs.Records.{change, db_rec, drop_part, drop_table, event, event_kind, kind_code, move_part, move_table, newest, op_code, op_fits, operation, put_part, put_table};
 ghost use Rattle.change_codec.specs.Whole.{Gives};
 
 use crate::fault::Stop;
 use crate::reading::Get;
+use crate::tags::{
+    ADD_PARTITION_KIND, ALTER_DATABASE_KIND, ALTER_PARTITION_KIND, ALTER_TABLE_KIND,
+    CREATE_DATABASE_KIND, CREATE_TABLE_KIND, DROP_DATABASE_KIND, DROP_DB_OP, DROP_PART_OP,
+    DROP_PARTITION_KIND, DROP_TABLE_KIND, DROP_TABLE_OP, MOVE_PART_OP, MOVE_TABLE_OP, PUT_DB_OP,
+    PUT_PART_OP, PUT_TABLE_OP,
+};
+use crate::version::Version;
 use crate::writing::{Put, put_tag, put_tagged};
 use cat_types::{
     Bytes, Change, DbRec, Event, EventKind, NoMemory, Op, Ops, PartRec, TableRec, Text, Texts,
@@ -15,59 +22,59 @@ use std::alloc::Global;
 
 #[tactic(auto, unfolding(crate::specs::Forms::tagged_read))]
 impl Get for Op {
-    ghost read = { operation.read };
+    ghost read = { λ version. (operation version).read };
 
-    fn get(alloc: Global, bytes: &[u8]) -> Result<(Op, &[u8]), Stop> {
+    fn get(alloc: Global, version: Version, bytes: &[u8]) -> Result<(Op, &[u8]), Stop> {
         match bytes {
             [] => Err(Stop::Left(0)),
-            [1, rest @ ..] => get_put_db(alloc, rest),
-            [2, rest @ ..] => Ok((Op::DropDb, rest)),
-            [3, rest @ ..] => get_put_table(alloc, rest),
-            [4, rest @ ..] => get_drop_table(alloc, rest),
-            [5, rest @ ..] => get_move_table(alloc, rest),
-            [6, rest @ ..] => get_put_part(alloc, rest),
-            [7, rest @ ..] => get_drop_part(alloc, rest),
-            [8, rest @ ..] => get_move_part(alloc, rest),
+            [PUT_DB_OP, rest @ ..] => get_put_db(alloc, version, rest),
+            [DROP_DB_OP, rest @ ..] => Ok((Op::DropDb, rest)),
+            [PUT_TABLE_OP, rest @ ..] => get_put_table(alloc, version, rest),
+            [DROP_TABLE_OP, rest @ ..] => get_drop_table(alloc, version, rest),
+            [MOVE_TABLE_OP, rest @ ..] => get_move_table(alloc, version, rest),
+            [PUT_PART_OP, rest @ ..] => get_put_part(alloc, version, rest),
+            [DROP_PART_OP, rest @ ..] => get_drop_part(alloc, version, rest),
+            [MOVE_PART_OP, rest @ ..] => get_move_part(alloc, version, rest),
             [_, ..] => Err(Stop::Left(bytes.len())),
         }
     }
 }
 
 #[tactic(auto, unfolding(crate::specs::Forms::made_read))]
-fn get_put_db(alloc: Global, bytes: &[u8]) -> Result<(Op, &[u8]), Stop>
-    ensures { Gives (λ x. (x.0, x.1.now)) result (made_read (λ r. Op.PutDb r) db_rec.read bytes.now) }
+fn get_put_db(alloc: Global, version: Version, bytes: &[u8]) -> Result<(Op, &[u8]), Stop>
+    ensures { Gives (λ x. (x.0, x.1.now)) result (made_read (λ r. Op.PutDb r) (db_rec version).read bytes.now) }
 {
-    match DbRec::get(alloc, bytes) {
+    match DbRec::get(alloc, version, bytes) {
         Ok((rec, rest)) => Ok((Op::PutDb { rec }, rest)),
         Err(stop) => Err(stop),
     }
 }
 
 #[tactic(auto, unfolding(crate::specs::Forms::made_read))]
-fn get_put_table(alloc: Global, bytes: &[u8]) -> Result<(Op, &[u8]), Stop>
-    ensures { Gives (λ x. (x.0, x.1.now)) result (made_read (λ p. Op.PutTable p.0 p.1 p.2) put_table.read bytes.now) }
+fn get_put_table(alloc: Global, version: Version, bytes: &[u8]) -> Result<(Op, &[u8]), Stop>
+    ensures { Gives (λ x. (x.0, x.1.now)) result (made_read (λ p. Op.PutTable p.0 p.1 p.2) (put_table version).read bytes.now) }
 {
-    match <(Text, u64, TableRec)>::get(alloc, bytes) {
+    match <(Text, u64, TableRec)>::get(alloc, version, bytes) {
         Ok(((table, born, rec), rest)) => Ok((Op::PutTable { table, born, rec }, rest)),
         Err(stop) => Err(stop),
     }
 }
 
 #[tactic(auto, unfolding(crate::specs::Forms::made_read))]
-fn get_drop_table(alloc: Global, bytes: &[u8]) -> Result<(Op, &[u8]), Stop>
+fn get_drop_table(alloc: Global, version: Version, bytes: &[u8]) -> Result<(Op, &[u8]), Stop>
     ensures { Gives (λ x. (x.0, x.1.now)) result (made_read (λ p. Op.DropTable p.0 p.1) drop_table.read bytes.now) }
 {
-    match <(Text, u64)>::get(alloc, bytes) {
+    match <(Text, u64)>::get(alloc, version, bytes) {
         Ok(((table, born), rest)) => Ok((Op::DropTable { table, born }, rest)),
         Err(stop) => Err(stop),
     }
 }
 
 #[tactic(auto, unfolding(crate::specs::Forms::made_read))]
-fn get_move_table(alloc: Global, bytes: &[u8]) -> Result<(Op, &[u8]), Stop>
-    ensures { Gives (λ x. (x.0, x.1.now)) result (made_read (λ p. Op.MoveTable p.0 p.1 p.2 p.3) move_table.read bytes.now) }
+fn get_move_table(alloc: Global, version: Version, bytes: &[u8]) -> Result<(Op, &[u8]), Stop>
+    ensures { Gives (λ x. (x.0, x.1.now)) result (made_read (λ p. Op.MoveTable p.0 p.1 p.2 p.3) (move_table version).read bytes.now) }
 {
-    match <(Text, u64, Text, TableRec)>::get(alloc, bytes) {
+    match <(Text, u64, Text, TableRec)>::get(alloc, version, bytes) {
         Ok(((table, born, to, rec), rest)) => Ok((
             Op::MoveTable {
                 table,
@@ -82,10 +89,10 @@ fn get_move_table(alloc: Global, bytes: &[u8]) -> Result<(Op, &[u8]), Stop>
 }
 
 #[tactic(auto, unfolding(crate::specs::Forms::made_read))]
-fn get_put_part(alloc: Global, bytes: &[u8]) -> Result<(Op, &[u8]), Stop>
+fn get_put_part(alloc: Global, version: Version, bytes: &[u8]) -> Result<(Op, &[u8]), Stop>
     ensures { Gives (λ x. (x.0, x.1.now)) result (made_read (λ p. Op.PutPart p.0 p.1 p.2 p.3) put_part.read bytes.now) }
 {
-    match <(Text, u64, Texts, PartRec)>::get(alloc, bytes) {
+    match <(Text, u64, Texts, PartRec)>::get(alloc, version, bytes) {
         Ok(((table, born, values, rec), rest)) => Ok((
             Op::PutPart {
                 table,
@@ -100,10 +107,10 @@ fn get_put_part(alloc: Global, bytes: &[u8]) -> Result<(Op, &[u8]), Stop>
 }
 
 #[tactic(auto, unfolding(crate::specs::Forms::made_read))]
-fn get_drop_part(alloc: Global, bytes: &[u8]) -> Result<(Op, &[u8]), Stop>
+fn get_drop_part(alloc: Global, version: Version, bytes: &[u8]) -> Result<(Op, &[u8]), Stop>
     ensures { Gives (λ x. (x.0, x.1.now)) result (made_read (λ p. Op.DropPart p.0 p.1 p.2) drop_part.read bytes.now) }
 {
-    match <(Text, u64, Texts)>::get(alloc, bytes) {
+    match <(Text, u64, Texts)>::get(alloc, version, bytes) {
         Ok(((table, born, values), rest)) => Ok((
             Op::DropPart {
                 table,
@@ -117,10 +124,10 @@ fn get_drop_part(alloc: Global, bytes: &[u8]) -> Result<(Op, &[u8]), Stop>
 }
 
 #[tactic(auto, unfolding(crate::specs::Forms::made_read))]
-fn get_move_part(alloc: Global, bytes: &[u8]) -> Result<(Op, &[u8]), Stop>
+fn get_move_part(alloc: Global, version: Version, bytes: &[u8]) -> Result<(Op, &[u8]), Stop>
     ensures { Gives (λ x. (x.0, x.1.now)) result (made_read (λ p. Op.MovePart p.0.0 p.0.1 p.1.0 p.1.1 p.1.2) move_part.read bytes.now) }
 {
-    match <((Text, u64), (Texts, Texts, PartRec))>::get(alloc, bytes) {
+    match <((Text, u64), (Texts, Texts, PartRec))>::get(alloc, version, bytes) {
         Ok((((table, born), (values, to, rec)), rest)) => Ok((
             Op::MovePart {
                 table,
@@ -136,60 +143,60 @@ fn get_move_part(alloc: Global, bytes: &[u8]) -> Result<(Op, &[u8]), Stop>
 }
 
 impl Put for Op {
-    ghost Fits = { op_fits };
+    ghost Fits = { op_fits newest };
 
-    ghost code = { op_code };
+    ghost code = { op_code newest };
 
     fn put(&self, out: &mut Bytes) -> Result<(), NoMemory> {
         match self {
-            Op::PutDb { rec } => put_tagged(1, rec, out),
-            Op::DropDb => put_tag(2, out),
-            Op::PutTable { table, born, rec } => put_tagged(3, &(table, born, rec), out),
-            Op::DropTable { table, born } => put_tagged(4, &(table, born), out),
+            Op::PutDb { rec } => put_tagged(PUT_DB_OP, rec, out),
+            Op::DropDb => put_tag(DROP_DB_OP, out),
+            Op::PutTable { table, born, rec } => put_tagged(PUT_TABLE_OP, &(table, born, rec), out),
+            Op::DropTable { table, born } => put_tagged(DROP_TABLE_OP, &(table, born), out),
             Op::MoveTable {
                 table,
                 born,
                 to,
                 rec,
-            } => put_tagged(5, &(table, born, to, rec), out),
+            } => put_tagged(MOVE_TABLE_OP, &(table, born, to, rec), out),
             Op::PutPart {
                 table,
                 born,
                 values,
                 rec,
-            } => put_tagged(6, &(table, born, values, rec), out),
+            } => put_tagged(PUT_PART_OP, &(table, born, values, rec), out),
             Op::DropPart {
                 table,
                 born,
                 values,
-            } => put_tagged(7, &(table, born, values), out),
+            } => put_tagged(DROP_PART_OP, &(table, born, values), out),
             Op::MovePart {
                 table,
                 born,
                 values,
                 to,
                 rec,
-            } => put_tagged(8, &((table, born), (values, to, rec)), out),
+            } => put_tagged(MOVE_PART_OP, &((table, born), (values, to, rec)), out),
         }
     }
 }
 
 #[tactic(auto, unfolding(crate::specs::Forms::tagged_read))]
 impl Get for EventKind {
-    ghost read = { event_kind.read };
+    ghost read = { λ _. event_kind.read };
 
-    fn get(_alloc: Global, bytes: &[u8]) -> Result<(EventKind, &[u8]), Stop> {
+    fn get(_alloc: Global, version: Version, bytes: &[u8]) -> Result<(EventKind, &[u8]), Stop> {
         match bytes {
             [] => Err(Stop::Left(0)),
-            [1, rest @ ..] => Ok((EventKind::CreateDatabase, rest)),
-            [2, rest @ ..] => Ok((EventKind::AlterDatabase, rest)),
-            [3, rest @ ..] => Ok((EventKind::DropDatabase, rest)),
-            [4, rest @ ..] => Ok((EventKind::CreateTable, rest)),
-            [5, rest @ ..] => Ok((EventKind::AlterTable, rest)),
-            [6, rest @ ..] => Ok((EventKind::DropTable, rest)),
-            [7, rest @ ..] => Ok((EventKind::AddPartition, rest)),
-            [8, rest @ ..] => Ok((EventKind::AlterPartition, rest)),
-            [9, rest @ ..] => Ok((EventKind::DropPartition, rest)),
+            [CREATE_DATABASE_KIND, rest @ ..] => Ok((EventKind::CreateDatabase, rest)),
+            [ALTER_DATABASE_KIND, rest @ ..] => Ok((EventKind::AlterDatabase, rest)),
+            [DROP_DATABASE_KIND, rest @ ..] => Ok((EventKind::DropDatabase, rest)),
+            [CREATE_TABLE_KIND, rest @ ..] => Ok((EventKind::CreateTable, rest)),
+            [ALTER_TABLE_KIND, rest @ ..] => Ok((EventKind::AlterTable, rest)),
+            [DROP_TABLE_KIND, rest @ ..] => Ok((EventKind::DropTable, rest)),
+            [ADD_PARTITION_KIND, rest @ ..] => Ok((EventKind::AddPartition, rest)),
+            [ALTER_PARTITION_KIND, rest @ ..] => Ok((EventKind::AlterPartition, rest)),
+            [DROP_PARTITION_KIND, rest @ ..] => Ok((EventKind::DropPartition, rest)),
             [_, ..] => Err(Stop::Left(bytes.len())),
         }
     }
@@ -202,15 +209,15 @@ impl Put for EventKind {
 
     fn put(&self, out: &mut Bytes) -> Result<(), NoMemory> {
         let tag = match self {
-            EventKind::CreateDatabase => 1,
-            EventKind::AlterDatabase => 2,
-            EventKind::DropDatabase => 3,
-            EventKind::CreateTable => 4,
-            EventKind::AlterTable => 5,
-            EventKind::DropTable => 6,
-            EventKind::AddPartition => 7,
-            EventKind::AlterPartition => 8,
-            EventKind::DropPartition => 9,
+            EventKind::CreateDatabase => CREATE_DATABASE_KIND,
+            EventKind::AlterDatabase => ALTER_DATABASE_KIND,
+            EventKind::DropDatabase => DROP_DATABASE_KIND,
+            EventKind::CreateTable => CREATE_TABLE_KIND,
+            EventKind::AlterTable => ALTER_TABLE_KIND,
+            EventKind::DropTable => DROP_TABLE_KIND,
+            EventKind::AddPartition => ADD_PARTITION_KIND,
+            EventKind::AlterPartition => ALTER_PARTITION_KIND,
+            EventKind::DropPartition => DROP_PARTITION_KIND,
         };
         put_tag(tag, out)
     }
@@ -218,10 +225,10 @@ impl Put for EventKind {
 
 #[tactic(auto, unfolding(crate::specs::Forms::made_read))]
 impl Get for Change {
-    ghost read = { change.read };
+    ghost read = { λ version. (change version).read };
 
-    fn get(alloc: Global, bytes: &[u8]) -> Result<(Change, &[u8]), Stop> {
-        match <(EventKind, Text, u64, Ops)>::get(alloc, bytes) {
+    fn get(alloc: Global, version: Version, bytes: &[u8]) -> Result<(Change, &[u8]), Stop> {
+        match <(EventKind, Text, u64, Ops)>::get(alloc, version, bytes) {
             Ok(((kind, db, db_born, ops), rest)) => Ok((
                 Change {
                     kind,
@@ -237,9 +244,9 @@ impl Get for Change {
 }
 
 impl Put for Change {
-    ghost Fits = { change.Fits };
+    ghost Fits = { (change newest).Fits };
 
-    ghost code = { change.code };
+    ghost code = { (change newest).code };
 
     fn put(&self, out: &mut Bytes) -> Result<(), NoMemory> {
         (&self.kind, &self.db, &self.db_born, &self.ops).put(out)
@@ -248,10 +255,10 @@ impl Put for Change {
 
 #[tactic(auto, unfolding(crate::specs::Forms::made_read))]
 impl Get for Event {
-    ghost read = { event.read };
+    ghost read = { λ version. (event version).read };
 
-    fn get(alloc: Global, bytes: &[u8]) -> Result<(Event, &[u8]), Stop> {
-        match <(u64, u64, Change)>::get(alloc, bytes) {
+    fn get(alloc: Global, version: Version, bytes: &[u8]) -> Result<(Event, &[u8]), Stop> {
+        match <(u64, u64, Change)>::get(alloc, version, bytes) {
             Ok(((id, moment, change), rest)) => Ok((Event { id, moment, change }, rest)),
             Err(stop) => Err(stop),
         }
@@ -259,9 +266,9 @@ impl Get for Event {
 }
 
 impl Put for Event {
-    ghost Fits = { event.Fits };
+    ghost Fits = { (event newest).Fits };
 
-    ghost code = { event.code };
+    ghost code = { (event newest).code };
 
     fn put(&self, out: &mut Bytes) -> Result<(), NoMemory> {
         (&self.id, &self.moment, &self.change).put(out)

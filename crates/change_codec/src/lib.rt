@@ -13,7 +13,9 @@ mod records;
 mod replicas;
 mod statistics;
 mod storage;
+mod tags;
 mod tuples;
+mod version;
 mod writing;
 
 pub use calls::{

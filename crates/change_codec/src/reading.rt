@@ -5,19 +5,22 @@ ghost use Rattle.std.specs.Int.{w32, w64};
 ghost use Rattle.cat_values.specs.declared.list_of.TheConstants.{LIST_END};
 ghost use Rattle.change_codec.specs.Forms.{Reading, count_read, flag_read, front_read, last_key, list_read, map_read, number_read, option_read, pairs_read, rises, rising_read, signed_read, text_read, values_read};
 ghost use Rattle.change_codec.specs.Whole.{Gives};
+ghost use Rattle.change_codec.specs.declared.version.Version.{Version};
 
 use crate::fault::Stop;
+use crate::tags::{ABSENT, FALSE, PRESENT, TRUE};
+use crate::version::Version;
 use cat_types::{LIST_END, ListOf, MapOf, TEXT_LIMIT, Text};
 use std::alloc::Global;
 
 /// A value that can be read off the front of bytes.
 pub trait Get: Drop {
-    /// How it is read.
-    ghost read: { List ℕ → Reading Self };
+    /// How it is read in each version.
+    ghost read: { Version → List ℕ → Reading Self };
 
     /// The value, and the bytes behind it.
-    fn get(alloc: Global, bytes: &[u8]) -> Result<(Self, &[u8]), Stop>
-        ensures { Gives (λ x. (x.0, x.1.now)) result (read bytes.now) };
+    fn get(alloc: Global, version: Version, bytes: &[u8]) -> Result<(Self, &[u8]), Stop>
+        ensures { Gives (λ x. (x.0, x.1.now)) result (read version bytes.now) };
 }
 
 // So many bytes, and those behind them.
@@ -74,18 +77,18 @@ pub fn count_of(bytes: &[u8], last: usize) -> Result<(usize, &[u8]), Stop>
 }
 
 impl Get for u64 {
-    ghost read = { number_read w64 };
+    ghost read = { λ _. number_read w64 };
 
-    fn get(_alloc: Global, bytes: &[u8]) -> Result<(u64, &[u8]), Stop> {
+    fn get(_alloc: Global, _version: Version, bytes: &[u8]) -> Result<(u64, &[u8]), Stop> {
         eight_of(bytes)
     }
 }
 
 #[tactic(auto, unfolding(crate::specs::Forms::signed_read))]
 impl Get for i32 {
-    ghost read = { signed_read w32 };
+    ghost read = { λ _. signed_read w32 };
 
-    fn get(_alloc: Global, bytes: &[u8]) -> Result<(i32, &[u8]), Stop> {
+    fn get(_alloc: Global, _version: Version, bytes: &[u8]) -> Result<(i32, &[u8]), Stop> {
         let (number, rest) = four_of(bytes)?;
         Ok((number.cast_signed(), rest))
     }
@@ -93,9 +96,9 @@ impl Get for i32 {
 
 #[tactic(auto, unfolding(crate::specs::Forms::signed_read))]
 impl Get for i64 {
-    ghost read = { signed_read w64 };
+    ghost read = { λ _. signed_read w64 };
 
-    fn get(_alloc: Global, bytes: &[u8]) -> Result<(i64, &[u8]), Stop> {
+    fn get(_alloc: Global, _version: Version, bytes: &[u8]) -> Result<(i64, &[u8]), Stop> {
         let (number, rest) = eight_of(bytes)?;
         Ok((number.cast_signed(), rest))
     }
@@ -103,22 +106,22 @@ impl Get for i64 {
 
 #[tactic(auto, unfolding(crate::specs::Forms::flag_read))]
 impl Get for bool {
-    ghost read = { flag_read };
+    ghost read = { λ _. flag_read };
 
-    fn get(_alloc: Global, bytes: &[u8]) -> Result<(bool, &[u8]), Stop> {
+    fn get(_alloc: Global, _version: Version, bytes: &[u8]) -> Result<(bool, &[u8]), Stop> {
         match bytes {
             [] => Err(Stop::Left(0)),
-            [0, rest @ ..] => Ok((false, rest)),
-            [1, rest @ ..] => Ok((true, rest)),
+            [FALSE, rest @ ..] => Ok((false, rest)),
+            [TRUE, rest @ ..] => Ok((true, rest)),
             [_, ..] => Err(Stop::Left(bytes.len())),
         }
     }
 }
 
 impl<const N: usize> Get for [u8; N] {
-    ghost read = { front_read N };
+    ghost read = { λ _. front_read N };
 
-    fn get(_alloc: Global, bytes: &[u8]) -> Result<([u8; N], &[u8]), Stop> {
+    fn get(_alloc: Global, _version: Version, bytes: &[u8]) -> Result<([u8; N], &[u8]), Stop> {
         let (front, rest) = front_of(bytes, N)?;
         let mut copied = [0; N];
         copied.copy_from_slice(front);
@@ -128,9 +131,9 @@ impl<const N: usize> Get for [u8; N] {
 
 #[tactic(auto, unfolding(crate::specs::Forms::text_read))]
 impl Get for Text {
-    ghost read = { text_read };
+    ghost read = { λ _. text_read };
 
-    fn get(alloc: Global, bytes: &[u8]) -> Result<(Text, &[u8]), Stop> {
+    fn get(alloc: Global, _version: Version, bytes: &[u8]) -> Result<(Text, &[u8]), Stop> {
         let (count, rest) = count_of(bytes, TEXT_LIMIT)?;
         let (front, rest) = front_of(rest, count)?;
         match Text::from_utf8(Vec::from_slice(alloc, front)?) {
@@ -142,13 +145,13 @@ impl Get for Text {
 
 #[tactic(auto, unfolding(crate::specs::Forms::option_read))]
 impl<T: Get> Get for Option<T> {
-    ghost read = { option_read T.read };
+    ghost read = { λ version. option_read (T.read version) };
 
-    fn get(alloc: Global, bytes: &[u8]) -> Result<(Option<T>, &[u8]), Stop> {
+    fn get(alloc: Global, version: Version, bytes: &[u8]) -> Result<(Option<T>, &[u8]), Stop> {
         match bytes {
             [] => Err(Stop::Left(0)),
-            [0, rest @ ..] => Ok((None, rest)),
-            [1, rest @ ..] => match T::get(alloc, rest) {
+            [ABSENT, rest @ ..] => Ok((None, rest)),
+            [PRESENT, rest @ ..] => match T::get(alloc, version, rest) {
                 Ok((value, rest)) => Ok((Some(value), rest)),
                 Err(stop) => Err(stop),
             },
@@ -158,13 +161,18 @@ impl<T: Get> Get for Option<T> {
 }
 
 // So many values, and the bytes behind them.
-fn values_of<T: Get>(alloc: Global, count: usize, bytes: &[u8]) -> Result<(ListOf<T>, &[u8]), Stop>
-    ensures { Gives (λ x. (x.0, x.1.now)) result (values_read T.read count bytes.now) }
+fn values_of<T: Get>(
+    alloc: Global,
+    version: Version,
+    count: usize,
+    bytes: &[u8],
+) -> Result<(ListOf<T>, &[u8]), Stop>
+    ensures { Gives (λ x. (x.0, x.1.now)) result (values_read (T.read version) count bytes.now) }
 {
     let mut values = ListOf::new(alloc);
     let mut rest = bytes;
     for _ in 0..count {
-        let (value, after) = T::get(alloc, rest)?;
+        let (value, after) = T::get(alloc, version, rest)?;
         values.push(value)?;
         rest = after;
     }
@@ -173,11 +181,11 @@ fn values_of<T: Get>(alloc: Global, count: usize, bytes: &[u8]) -> Result<(ListO
 
 #[tactic(auto, unfolding(crate::specs::Forms::list_read))]
 impl<T: Get> Get for ListOf<T> {
-    ghost read = { list_read T.read };
+    ghost read = { λ version. list_read (T.read version) };
 
-    fn get(alloc: Global, bytes: &[u8]) -> Result<(ListOf<T>, &[u8]), Stop> {
+    fn get(alloc: Global, version: Version, bytes: &[u8]) -> Result<(ListOf<T>, &[u8]), Stop> {
         let (count, rest) = count_of(bytes, LIST_END - 1)?;
-        values_of(alloc, count, rest)
+        values_of(alloc, version, count, rest)
     }
 }
 
@@ -195,12 +203,13 @@ fn rises<K: Ord, V>(pairs: &MapOf<K, V>, key: &K) -> bool
 #[tactic(auto, unfolding(crate::specs::Forms::rising_read))]
 fn key_of<'a, K: Ord + Get, V>(
     alloc: Global,
+    version: Version,
     pairs: &MapOf<K, V>,
     bytes: &'a [u8],
 ) -> Result<(K, &'a [u8]), Stop>
-    ensures { Gives (λ x. (x.0, x.1.now)) result (rising_read K.cmp K.read (last_key pairs.now) bytes.now) }
+    ensures { Gives (λ x. (x.0, x.1.now)) result (rising_read K.cmp (K.read version) (last_key pairs.now) bytes.now) }
 {
-    match K::get(alloc, bytes) {
+    match K::get(alloc, version, bytes) {
         Ok((key, rest)) => {
             if !rises(pairs, &key) {
                 return Err(Stop::Left(bytes.len()));
@@ -214,16 +223,17 @@ fn key_of<'a, K: Ord + Get, V>(
 // So many pairs with rising keys, and the bytes behind them.
 fn pairs_of<K: Ord + Get, V: Get>(
     alloc: Global,
+    version: Version,
     count: usize,
     bytes: &[u8],
 ) -> Result<(MapOf<K, V>, &[u8]), Stop>
-    ensures { Gives (λ x. (x.0, x.1.now)) result (pairs_read K.cmp K.read V.read count None bytes.now) }
+    ensures { Gives (λ x. (x.0, x.1.now)) result (pairs_read K.cmp (K.read version) (V.read version) count None bytes.now) }
 {
     let mut pairs = MapOf::new(alloc);
     let mut rest = bytes;
     for _ in 0..count {
-        let (key, after) = key_of(alloc, &pairs, rest)?;
-        let (value, after) = V::get(alloc, after)?;
+        let (key, after) = key_of(alloc, version, &pairs, rest)?;
+        let (value, after) = V::get(alloc, version, after)?;
         pairs.put(key, value)?;
         rest = after;
     }
@@ -232,10 +242,10 @@ fn pairs_of<K: Ord + Get, V: Get>(
 
 #[tactic(auto, unfolding(crate::specs::Forms::map_read))]
 impl<K: Ord + Get, V: Get> Get for MapOf<K, V> {
-    ghost read = { map_read K.cmp K.read V.read };
+    ghost read = { λ version. map_read K.cmp (K.read version) (V.read version) };
 
-    fn get(alloc: Global, bytes: &[u8]) -> Result<(MapOf<K, V>, &[u8]), Stop> {
+    fn get(alloc: Global, version: Version, bytes: &[u8]) -> Result<(MapOf<K, V>, &[u8]), Stop> {
         let (count, rest) = count_of(bytes, LIST_END - 1)?;
-        pairs_of(alloc, count, rest)
+        pairs_of(alloc, version, count, rest)
     }
 }

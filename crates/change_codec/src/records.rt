@@ -1,19 +1,20 @@
 //! Databases, tables and partitions in bytes.
 
-ghost use Rattle.change_codec.specs.Records.{db_rec, part_rec, table_rec};
+ghost use Rattle.change_codec.specs.Records.{db_rec, newest, part_rec, table_rec};
 
 use crate::fault::Stop;
 use crate::reading::Get;
+use crate::version::Version;
 use crate::writing::Put;
 use cat_types::{Bytes, Columns, DbRec, NoMemory, Params, PartRec, Stats, Storage, TableRec, Text};
 use std::alloc::Global;
 
 #[tactic(auto, unfolding(crate::specs::Forms::made_read))]
 impl Get for DbRec {
-    ghost read = { db_rec.read };
+    ghost read = { λ version. (db_rec version).read };
 
-    fn get(alloc: Global, bytes: &[u8]) -> Result<(DbRec, &[u8]), Stop> {
-        match <(Option<Text>, Option<Text>, Params, Option<Text>)>::get(alloc, bytes) {
+    fn get(alloc: Global, version: Version, bytes: &[u8]) -> Result<(DbRec, &[u8]), Stop> {
+        match <(Option<Text>, Option<Text>, Params, Option<Text>)>::get(alloc, version, bytes) {
             Ok(((description, location, params, owner), rest)) => Ok((
                 DbRec {
                     description,
@@ -29,9 +30,9 @@ impl Get for DbRec {
 }
 
 impl Put for DbRec {
-    ghost Fits = { db_rec.Fits };
+    ghost Fits = { (db_rec newest).Fits };
 
-    ghost code = { db_rec.code };
+    ghost code = { (db_rec newest).code };
 
     fn put(&self, out: &mut Bytes) -> Result<(), NoMemory> {
         (&self.description, &self.location, &self.params, &self.owner).put(out)
@@ -40,14 +41,14 @@ impl Put for DbRec {
 
 #[tactic(auto, unfolding(crate::specs::Forms::made_read))]
 impl Get for TableRec {
-    ghost read = { table_rec.read };
+    ghost read = { λ version. (table_rec version).read };
 
-    fn get(alloc: Global, bytes: &[u8]) -> Result<(TableRec, &[u8]), Stop> {
+    fn get(alloc: Global, version: Version, bytes: &[u8]) -> Result<(TableRec, &[u8]), Stop> {
         match <(
             (Option<Text>, i32, i32, i32),
             (Storage, Columns, Params, Option<Text>),
             (Option<Text>, Option<Text>, Stats),
-        )>::get(alloc, bytes)
+        )>::get(alloc, version, bytes)
         {
             Ok(
                 (
@@ -80,9 +81,9 @@ impl Get for TableRec {
 }
 
 impl Put for TableRec {
-    ghost Fits = { table_rec.Fits };
+    ghost Fits = { (table_rec newest).Fits };
 
-    ghost code = { table_rec.code };
+    ghost code = { (table_rec newest).code };
 
     fn put(&self, out: &mut Bytes) -> Result<(), NoMemory> {
         (
@@ -96,10 +97,10 @@ impl Put for TableRec {
 
 #[tactic(auto, unfolding(crate::specs::Forms::made_read))]
 impl Get for PartRec {
-    ghost read = { part_rec.read };
+    ghost read = { λ _. part_rec.read };
 
-    fn get(alloc: Global, bytes: &[u8]) -> Result<(PartRec, &[u8]), Stop> {
-        match <((i32, i32), (Option<Storage>, Params, Stats))>::get(alloc, bytes) {
+    fn get(alloc: Global, version: Version, bytes: &[u8]) -> Result<(PartRec, &[u8]), Stop> {
+        match <((i32, i32), (Option<Storage>, Params, Stats))>::get(alloc, version, bytes) {
             Ok((((created, accessed), (sd, params, stats)), rest)) => Ok((
                 PartRec {
                     created,

@@ -3,56 +3,60 @@
 ghost use Rattle.std.specs.Prelude.{◌≡◌, ◌∷◌, OnOk};
 ghost use Rattle.std.specs.Int.{w64};
 ghost use Rattle.change_codec.specs.Forms.{made_read, number_read};
-ghost use Rattle.change_codec.specs.Records.{a_phase, an_entry, entry_code, entry_fits, event, load_step, marked, phase_code, phase_fits, replica_row, two_numbers};
+ghost use Rattle.change_codec.specs.Records.{a_phase, an_entry, entry_code, entry_fits, event, load_step, marked, newest, phase_code, phase_fits, replica_row, two_numbers};
 ghost use Rattle.change_codec.specs.Whole.{Gives};
 
 use crate::Entry;
 use crate::fault::Stop;
 use crate::reading::Get;
+use crate::tags::{
+    DUMP_ENTRY, EVENT_ENTRY, EVENTS_PHASE, ITEMS_PHASE, LIVE_PHASE, LOAD_ENTRY, TRIM_ENTRY,
+};
+use crate::version::Version;
 use crate::writing::{Put, put_tagged};
 use cat_types::{Bytes, Event, Marked, MarkedOps, NoMemory, Op, Phase, ReplicaRow, Text};
 use std::alloc::Global;
 
 #[tactic(auto, unfolding(crate::specs::Forms::tagged_read))]
 impl Get for Phase {
-    ghost read = { a_phase.read };
+    ghost read = { λ _. a_phase.read };
 
-    fn get(alloc: Global, bytes: &[u8]) -> Result<(Phase, &[u8]), Stop> {
+    fn get(alloc: Global, version: Version, bytes: &[u8]) -> Result<(Phase, &[u8]), Stop> {
         match bytes {
             [] => Err(Stop::Left(0)),
-            [1, rest @ ..] => get_items(alloc, rest),
-            [2, rest @ ..] => get_events(alloc, rest),
-            [3, rest @ ..] => get_live(alloc, rest),
+            [ITEMS_PHASE, rest @ ..] => get_items(alloc, version, rest),
+            [EVENTS_PHASE, rest @ ..] => get_events(alloc, version, rest),
+            [LIVE_PHASE, rest @ ..] => get_live(alloc, version, rest),
             [_, ..] => Err(Stop::Left(bytes.len())),
         }
     }
 }
 
 #[tactic(auto, unfolding(crate::specs::Forms::made_read))]
-fn get_items(alloc: Global, bytes: &[u8]) -> Result<(Phase, &[u8]), Stop>
+fn get_items(alloc: Global, version: Version, bytes: &[u8]) -> Result<(Phase, &[u8]), Stop>
     ensures { Gives (λ x. (x.0, x.1.now)) result (made_read (λ p. Phase.Items p.0 p.1) two_numbers.read bytes.now) }
 {
-    match <(u64, u64)>::get(alloc, bytes) {
+    match <(u64, u64)>::get(alloc, version, bytes) {
         Ok(((dump, count), rest)) => Ok((Phase::Items(dump, count), rest)),
         Err(stop) => Err(stop),
     }
 }
 
 #[tactic(auto, unfolding(crate::specs::Forms::made_read))]
-fn get_events(alloc: Global, bytes: &[u8]) -> Result<(Phase, &[u8]), Stop>
+fn get_events(alloc: Global, version: Version, bytes: &[u8]) -> Result<(Phase, &[u8]), Stop>
     ensures { Gives (λ x. (x.0, x.1.now)) result (made_read (λ p. Phase.Events p.0 p.1) two_numbers.read bytes.now) }
 {
-    match <(u64, u64)>::get(alloc, bytes) {
+    match <(u64, u64)>::get(alloc, version, bytes) {
         Ok(((dump, at), rest)) => Ok((Phase::Events(dump, at), rest)),
         Err(stop) => Err(stop),
     }
 }
 
 #[tactic(auto, unfolding(crate::specs::Forms::made_read))]
-fn get_live(alloc: Global, bytes: &[u8]) -> Result<(Phase, &[u8]), Stop>
+fn get_live(alloc: Global, version: Version, bytes: &[u8]) -> Result<(Phase, &[u8]), Stop>
     ensures { Gives (λ x. (x.0, x.1.now)) result (made_read (λ n. Phase.Live n) (number_read w64) bytes.now) }
 {
-    match u64::get(alloc, bytes) {
+    match u64::get(alloc, version, bytes) {
         Ok((at, rest)) => Ok((Phase::Live(at), rest)),
         Err(stop) => Err(stop),
     }
@@ -65,19 +69,19 @@ impl Put for Phase {
 
     fn put(&self, out: &mut Bytes) -> Result<(), NoMemory> {
         match self {
-            Phase::Items(dump, count) => put_tagged(1, &(dump, count), out),
-            Phase::Events(dump, at) => put_tagged(2, &(dump, at), out),
-            Phase::Live(at) => put_tagged(3, at, out),
+            Phase::Items(dump, count) => put_tagged(ITEMS_PHASE, &(dump, count), out),
+            Phase::Events(dump, at) => put_tagged(EVENTS_PHASE, &(dump, at), out),
+            Phase::Live(at) => put_tagged(LIVE_PHASE, at, out),
         }
     }
 }
 
 #[tactic(auto, unfolding(crate::specs::Forms::made_read))]
 impl Get for ReplicaRow {
-    ghost read = { replica_row.read };
+    ghost read = { λ _. replica_row.read };
 
-    fn get(alloc: Global, bytes: &[u8]) -> Result<(ReplicaRow, &[u8]), Stop> {
-        match <([u8; 16], Text, Phase)>::get(alloc, bytes) {
+    fn get(alloc: Global, version: Version, bytes: &[u8]) -> Result<(ReplicaRow, &[u8]), Stop> {
+        match <([u8; 16], Text, Phase)>::get(alloc, version, bytes) {
             Ok((parts, rest)) => {
                 let (source, source_db, phase) = parts;
                 Ok((
@@ -106,10 +110,10 @@ impl Put for ReplicaRow {
 
 #[tactic(auto, unfolding(crate::specs::Forms::made_read))]
 impl Get for Marked {
-    ghost read = { marked.read };
+    ghost read = { λ version. (marked version).read };
 
-    fn get(alloc: Global, bytes: &[u8]) -> Result<(Marked, &[u8]), Stop> {
-        match <(u64, u64, Op)>::get(alloc, bytes) {
+    fn get(alloc: Global, version: Version, bytes: &[u8]) -> Result<(Marked, &[u8]), Stop> {
+        match <(u64, u64, Op)>::get(alloc, version, bytes) {
             Ok(((mark, db_born, op), rest)) => Ok((Marked { mark, db_born, op }, rest)),
             Err(stop) => Err(stop),
         }
@@ -117,9 +121,9 @@ impl Get for Marked {
 }
 
 impl Put for Marked {
-    ghost Fits = { marked.Fits };
+    ghost Fits = { (marked newest).Fits };
 
-    ghost code = { marked.code };
+    ghost code = { (marked newest).code };
 
     fn put(&self, out: &mut Bytes) -> Result<(), NoMemory> {
         (&self.mark, &self.db_born, &self.op).put(out)
@@ -128,55 +132,55 @@ impl Put for Marked {
 
 #[tactic(auto, unfolding(crate::specs::Forms::tagged_read))]
 impl Get for Entry {
-    ghost read = { an_entry.read };
+    ghost read = { λ version. (an_entry version).read };
 
-    fn get(alloc: Global, bytes: &[u8]) -> Result<(Entry, &[u8]), Stop> {
+    fn get(alloc: Global, version: Version, bytes: &[u8]) -> Result<(Entry, &[u8]), Stop> {
         match bytes {
             [] => Err(Stop::Left(0)),
-            [1, rest @ ..] => get_kept(alloc, rest),
-            [2, rest @ ..] => get_begun(alloc, rest),
-            [3, rest @ ..] => get_trimmed(alloc, rest),
-            [4, rest @ ..] => get_load_step(alloc, rest),
+            [EVENT_ENTRY, rest @ ..] => get_kept(alloc, version, rest),
+            [DUMP_ENTRY, rest @ ..] => get_begun(alloc, version, rest),
+            [TRIM_ENTRY, rest @ ..] => get_trimmed(alloc, version, rest),
+            [LOAD_ENTRY, rest @ ..] => get_load_step(alloc, version, rest),
             [_, ..] => Err(Stop::Left(bytes.len())),
         }
     }
 }
 
 #[tactic(auto, unfolding(crate::specs::Forms::made_read))]
-fn get_kept(alloc: Global, bytes: &[u8]) -> Result<(Entry, &[u8]), Stop>
-    ensures { Gives (λ x. (x.0, x.1.now)) result (made_read (λ e. Entry.Event e) event.read bytes.now) }
+fn get_kept(alloc: Global, version: Version, bytes: &[u8]) -> Result<(Entry, &[u8]), Stop>
+    ensures { Gives (λ x. (x.0, x.1.now)) result (made_read (λ e. Entry.Event e) (event version).read bytes.now) }
 {
-    match Event::get(alloc, bytes) {
+    match Event::get(alloc, version, bytes) {
         Ok((event, rest)) => Ok((Entry::Event(event), rest)),
         Err(stop) => Err(stop),
     }
 }
 
 #[tactic(auto, unfolding(crate::specs::Forms::made_read))]
-fn get_begun(alloc: Global, bytes: &[u8]) -> Result<(Entry, &[u8]), Stop>
+fn get_begun(alloc: Global, version: Version, bytes: &[u8]) -> Result<(Entry, &[u8]), Stop>
     ensures { Gives (λ x. (x.0, x.1.now)) result (made_read (λ n. Entry.DumpBegun n) (number_read w64) bytes.now) }
 {
-    match u64::get(alloc, bytes) {
+    match u64::get(alloc, version, bytes) {
         Ok((dump, rest)) => Ok((Entry::DumpBegun(dump), rest)),
         Err(stop) => Err(stop),
     }
 }
 
 #[tactic(auto, unfolding(crate::specs::Forms::made_read))]
-fn get_trimmed(alloc: Global, bytes: &[u8]) -> Result<(Entry, &[u8]), Stop>
+fn get_trimmed(alloc: Global, version: Version, bytes: &[u8]) -> Result<(Entry, &[u8]), Stop>
     ensures { Gives (λ x. (x.0, x.1.now)) result (made_read (λ n. Entry.Trimmed n) (number_read w64) bytes.now) }
 {
-    match u64::get(alloc, bytes) {
+    match u64::get(alloc, version, bytes) {
         Ok((first, rest)) => Ok((Entry::Trimmed(first), rest)),
         Err(stop) => Err(stop),
     }
 }
 
 #[tactic(auto, unfolding(crate::specs::Forms::made_read))]
-fn get_load_step(alloc: Global, bytes: &[u8]) -> Result<(Entry, &[u8]), Stop>
-    ensures { Gives (λ x. (x.0, x.1.now)) result (made_read (λ p. Entry.LoadStep p.0 p.1 p.2 p.3) load_step.read bytes.now) }
+fn get_load_step(alloc: Global, version: Version, bytes: &[u8]) -> Result<(Entry, &[u8]), Stop>
+    ensures { Gives (λ x. (x.0, x.1.now)) result (made_read (λ p. Entry.LoadStep p.0 p.1 p.2 p.3) (load_step version).read bytes.now) }
 {
-    match <(Text, ReplicaRow, bool, MarkedOps)>::get(alloc, bytes) {
+    match <(Text, ReplicaRow, bool, MarkedOps)>::get(alloc, version, bytes) {
         Ok(((target, row, clear, ops), rest)) => Ok((
             Entry::LoadStep {
                 target,
@@ -191,21 +195,21 @@ fn get_load_step(alloc: Global, bytes: &[u8]) -> Result<(Entry, &[u8]), Stop>
 }
 
 impl Put for Entry {
-    ghost Fits = { entry_fits };
+    ghost Fits = { entry_fits newest };
 
-    ghost code = { entry_code };
+    ghost code = { entry_code newest };
 
     fn put(&self, out: &mut Bytes) -> Result<(), NoMemory> {
         match self {
-            Entry::Event(event) => put_tagged(1, event, out),
-            Entry::DumpBegun(dump) => put_tagged(2, dump, out),
-            Entry::Trimmed(first) => put_tagged(3, first, out),
+            Entry::Event(event) => put_tagged(EVENT_ENTRY, event, out),
+            Entry::DumpBegun(dump) => put_tagged(DUMP_ENTRY, dump, out),
+            Entry::Trimmed(first) => put_tagged(TRIM_ENTRY, first, out),
             Entry::LoadStep {
                 target,
                 row,
                 clear,
                 ops,
-            } => put_tagged(4, &(target, row, clear, ops), out),
+            } => put_tagged(LOAD_ENTRY, &(target, row, clear, ops), out),
         }
     }
 }

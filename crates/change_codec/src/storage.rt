@@ -4,6 +4,7 @@ ghost use Rattle.change_codec.specs.Records.{column, order, serde, skew, storage
 
 use crate::fault::Stop;
 use crate::reading::Get;
+use crate::version::Version;
 use crate::writing::Put;
 use cat_types::{
     Bytes, Column, Columns, NoMemory, Order, Orders, Params, PlaceMap, Serde, Skew, Storage, Text,
@@ -13,10 +14,10 @@ use std::alloc::Global;
 
 #[tactic(auto, unfolding(crate::specs::Forms::made_read))]
 impl Get for Column {
-    ghost read = { column.read };
+    ghost read = { λ _. column.read };
 
-    fn get(alloc: Global, bytes: &[u8]) -> Result<(Column, &[u8]), Stop> {
-        match <(Text, Text, Option<Text>)>::get(alloc, bytes) {
+    fn get(alloc: Global, version: Version, bytes: &[u8]) -> Result<(Column, &[u8]), Stop> {
+        match <(Text, Text, Option<Text>)>::get(alloc, version, bytes) {
             Ok(((name, ty, comment), rest)) => Ok((Column { name, ty, comment }, rest)),
             Err(stop) => Err(stop),
         }
@@ -35,10 +36,10 @@ impl Put for Column {
 
 #[tactic(auto, unfolding(crate::specs::Forms::made_read))]
 impl Get for Order {
-    ghost read = { order.read };
+    ghost read = { λ _. order.read };
 
-    fn get(alloc: Global, bytes: &[u8]) -> Result<(Order, &[u8]), Stop> {
-        match <(Text, i32)>::get(alloc, bytes) {
+    fn get(alloc: Global, version: Version, bytes: &[u8]) -> Result<(Order, &[u8]), Stop> {
+        match <(Text, i32)>::get(alloc, version, bytes) {
             Ok(((col, dir), rest)) => Ok((Order { col, dir }, rest)),
             Err(stop) => Err(stop),
         }
@@ -57,10 +58,10 @@ impl Put for Order {
 
 #[tactic(auto, unfolding(crate::specs::Forms::made_read))]
 impl Get for Serde {
-    ghost read = { serde.read };
+    ghost read = { λ _. serde.read };
 
-    fn get(alloc: Global, bytes: &[u8]) -> Result<(Serde, &[u8]), Stop> {
-        match <(Option<Text>, Option<Text>, Params)>::get(alloc, bytes) {
+    fn get(alloc: Global, version: Version, bytes: &[u8]) -> Result<(Serde, &[u8]), Stop> {
+        match <(Option<Text>, Option<Text>, Params)>::get(alloc, version, bytes) {
             Ok(((name, lib, params), rest)) => Ok((Serde { name, lib, params }, rest)),
             Err(stop) => Err(stop),
         }
@@ -79,10 +80,10 @@ impl Put for Serde {
 
 #[tactic(auto, unfolding(crate::specs::Forms::made_read))]
 impl Get for Skew {
-    ghost read = { skew.read };
+    ghost read = { λ _. skew.read };
 
-    fn get(alloc: Global, bytes: &[u8]) -> Result<(Skew, &[u8]), Stop> {
-        match <(Texts, TextLists, PlaceMap)>::get(alloc, bytes) {
+    fn get(alloc: Global, version: Version, bytes: &[u8]) -> Result<(Skew, &[u8]), Stop> {
+        match <(Texts, TextLists, PlaceMap)>::get(alloc, version, bytes) {
             Ok(((cols, values, places), rest)) => Ok((
                 Skew {
                     cols,
@@ -108,14 +109,14 @@ impl Put for Skew {
 
 #[tactic(auto, unfolding(crate::specs::Forms::made_read))]
 impl Get for Storage {
-    ghost read = { storage.read };
+    ghost read = { λ _. storage.read };
 
-    fn get(alloc: Global, bytes: &[u8]) -> Result<(Storage, &[u8]), Stop> {
+    fn get(alloc: Global, version: Version, bytes: &[u8]) -> Result<(Storage, &[u8]), Stop> {
         match <(
             (Columns, Option<Text>, Option<Text>, Option<Text>),
             (bool, i32, Option<Serde>, Texts),
             (Orders, Params, Option<Skew>, Option<bool>),
-        )>::get(alloc, bytes)
+        )>::get(alloc, version, bytes)
         {
             Ok(
                 (

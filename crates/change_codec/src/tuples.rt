@@ -5,42 +5,43 @@ ghost use Rattle.change_codec.specs.Forms.{four_read, then_read, three_read};
 
 use crate::fault::Stop;
 use crate::reading::Get;
+use crate::version::Version;
 use crate::writing::Put;
 use cat_types::{Bytes, NoMemory};
 use std::alloc::Global;
 
 #[tactic(auto, unfolding(crate::specs::Forms::then_read))]
 impl<A: Get, B: Get> Get for (A, B) {
-    ghost read = { then_read A.read B.read };
+    ghost read = { λ version. then_read (A.read version) (B.read version) };
 
-    fn get(alloc: Global, bytes: &[u8]) -> Result<((A, B), &[u8]), Stop> {
-        let (a, rest) = A::get(alloc, bytes)?;
-        let (b, rest) = B::get(alloc, rest)?;
+    fn get(alloc: Global, version: Version, bytes: &[u8]) -> Result<((A, B), &[u8]), Stop> {
+        let (a, rest) = A::get(alloc, version, bytes)?;
+        let (b, rest) = B::get(alloc, version, rest)?;
         Ok(((a, b), rest))
     }
 }
 
 #[tactic(auto, unfolding(crate::specs::Forms::three_read))]
 impl<A: Get, B: Get, C: Get> Get for (A, B, C) {
-    ghost read = { three_read A.read B.read C.read };
+    ghost read = { λ version. three_read (A.read version) (B.read version) (C.read version) };
 
-    fn get(alloc: Global, bytes: &[u8]) -> Result<((A, B, C), &[u8]), Stop> {
-        let (a, rest) = A::get(alloc, bytes)?;
-        let (b, rest) = B::get(alloc, rest)?;
-        let (c, rest) = C::get(alloc, rest)?;
+    fn get(alloc: Global, version: Version, bytes: &[u8]) -> Result<((A, B, C), &[u8]), Stop> {
+        let (a, rest) = A::get(alloc, version, bytes)?;
+        let (b, rest) = B::get(alloc, version, rest)?;
+        let (c, rest) = C::get(alloc, version, rest)?;
         Ok(((a, b, c), rest))
     }
 }
 
 #[tactic(auto, unfolding(crate::specs::Forms::four_read))]
 impl<A: Get, B: Get, C: Get, D: Get> Get for (A, B, C, D) {
-    ghost read = { four_read A.read B.read C.read D.read };
+    ghost read = { λ version. four_read (A.read version) (B.read version) (C.read version) (D.read version) };
 
-    fn get(alloc: Global, bytes: &[u8]) -> Result<((A, B, C, D), &[u8]), Stop> {
-        let (a, rest) = A::get(alloc, bytes)?;
-        let (b, rest) = B::get(alloc, rest)?;
-        let (c, rest) = C::get(alloc, rest)?;
-        let (d, rest) = D::get(alloc, rest)?;
+    fn get(alloc: Global, version: Version, bytes: &[u8]) -> Result<((A, B, C, D), &[u8]), Stop> {
+        let (a, rest) = A::get(alloc, version, bytes)?;
+        let (b, rest) = B::get(alloc, version, rest)?;
+        let (c, rest) = C::get(alloc, version, rest)?;
+        let (d, rest) = D::get(alloc, version, rest)?;
         Ok(((a, b, c, d), rest))
     }
 }

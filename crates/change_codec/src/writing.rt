@@ -9,8 +9,9 @@ ghost use Rattle.std.specs.Str.{IsUtf8};
 ghost use Rattle.cat_values.specs.declared.list_of.TheConstants.{LIST_END};
 ghost use Rattle.cat_values.specs.declared.text.TheConstants.{TEXT_LIMIT};
 ghost use Rattle.change_codec.specs.Forms.{flag_code, list_code, option_code};
-ghost use Rattle.change_codec.specs.Written.{Gathers};
+ghost use Rattle.cat_values.specs.Gathering.{Gathers};
 
+use crate::tags::{ABSENT, FALSE, PRESENT, TRUE};
 use cat_types::{Bytes, ListOf, MapOf, NoMemory, Text};
 
 /// A value that has a spelling in bytes.
@@ -98,9 +99,9 @@ impl Put for bool {
 
     fn put(&self, out: &mut Bytes) -> Result<(), NoMemory> {
         if *self {
-            put_tag(1, out)
+            put_tag(TRUE, out)
         } else {
-            put_tag(0, out)
+            put_tag(FALSE, out)
         }
     }
 }
@@ -134,9 +135,9 @@ impl<T: Put> Put for Option<T> {
 
     fn put(&self, out: &mut Bytes) -> Result<(), NoMemory> {
         match self {
-            None => put_tag(0, out),
+            None => put_tag(ABSENT, out),
             Some(value) => {
-                put_tag(1, out)?;
+                put_tag(PRESENT, out)?;
                 value.put(out)
             }
         }

@@ -1,40 +1,18 @@
 -- Each test decides its fact.
-use Rattle.std.proofs.Common.{◌≡◌, ℕ, Bool, true, false, List, ◌++◌, length, take, drop, refl, sym, ap, ◌∙◌, subst, rules, lit<, if◌then◌else◌, Option, Some, None, Result, Ok, Err}
-use Rattle.std.specs.Prelude.{codes, ℤ, pos, ◌<ℤ◌, int_lt}
-use Rattle.std.specs.Bool.{Decides}
+use Rattle.std.proofs.Common.{◌≡◌, Bool, true, false, refl, sym, subst, rules, lit<, if◌then◌else◌, Option, Some, None, Result, Ok, Err}
+use Rattle.std.specs.Prelude.{ℤ, pos, ◌<ℤ◌, int_lt}
+use Rattle.std.specs.Bool.{Decides, IsTrue}
 use lib.Dec.{T}
 use Rattle.std.specs.Result.{result_err}
 use Rattle.std.proofs.lemmas.Bool.{false≢true}
-use Rattle.std.proofs.lemmas.Bool.Decides.{Decides-or, Decides-like}
-use Rattle.std.proofs.lemmas.List.{take_at, take-append-drop}
-use Rattle.std.proofs.lemmas.Slice.Eq.{bytes_eq-Decides}
+use Rattle.std.proofs.lemmas.Bool.Decides.{Decides-or}
 use Rattle.cat_values.specs.declared.storage.Column.{Column}
 use Rattle.cat_values.specs.declared.statistics.StatValue.{StatValue}
 use Rattle.cat_values.specs.declared.statistics.StatValue.TheVariants.{Flags, Long, Str}
 use Rattle.col_stats.specs.declared.checking.StatFault.{StatFault}
 use Rattle.col_stats.specs.declared.checking.StatFault.TheVariants.{WrongKey, WrongColumn, WrongKind, Negative}
-use Rattle.col_stats.specs.Types.{BeginsWith, begins_with, IsBooleanType, is_boolean_type, IsIntegerType, is_integer_type, IsTextType, is_text_type, AsksForOther, asks_for_other, read_type}
-use Rattle.col_stats.specs.Rules.{IsNegative, is_negative, IsFirstBroken, first_fault}
-
-boolean-Decides : (name : List ℕ) → Decides (is_boolean_type name) (IsBooleanType name)
-boolean-Decides name = bytes_eq-Decides name (codes "boolean")
-
-integer-Decides : (name : List ℕ) → Decides (is_integer_type name) (IsIntegerType name)
-integer-Decides name = Decides-or _ _ (bytes_eq-Decides name (codes "tinyint")) (Decides-or _ _ (bytes_eq-Decides name (codes "smallint")) (Decides-or _ _ (bytes_eq-Decides name (codes "int")) (bytes_eq-Decides name (codes "bigint"))))
-
-begins-Decides : (front name : List ℕ) → Decides (begins_with front name) (BeginsWith front name)
-begins-Decides front name = Decides-like (begins_with front name)
-    (λ e. (drop (length front) name, sym (take-append-drop (length front) name) ∙ ap (λ (xs : List ℕ). xs ++ drop (length front) name) e))
-    (λ b. ap (take (length front)) b.1 ∙ take_at front b.0 (length front) refl)
-    (bytes_eq-Decides (take (length front) name) front)
-
-text-Decides : (name : List ℕ) → Decides (is_text_type name) (IsTextType name)
-text-Decides name = Decides-or _ _ (bytes_eq-Decides name (codes "string")) (Decides-or _ _ (begins-Decides (codes "varchar(") name) (begins-Decides (codes "char(") name))
-
-other-Decides : (ty : List ℕ) (value : StatValue) → Decides (asks_for_other ty value) (AsksForOther ty value)
-other-Decides ty (Flags trues falses nulls) = Decides-or _ _ (integer-Decides (read_type ty)) (text-Decides (read_type ty))
-other-Decides ty (Long low high nulls distinct) = Decides-or _ _ (boolean-Decides (read_type ty)) (text-Decides (read_type ty))
-other-Decides ty (Str longest average nulls distinct) = Decides-or _ _ (boolean-Decides (read_type ty)) (integer-Decides (read_type ty))
+use Rattle.cat_values.specs.Columns.{type_kind}
+use Rattle.col_stats.specs.Rules.{asks_for_other, IsNegative, is_negative, IsFirstBroken, first_fault}
 
 below-Decides : (n : ℤ) → Decides (int_lt n (pos 0)) (n <ℤ pos 0)
 below-Decides n = (λ e. record { lt = subst T (sym e) tt }, λ h. from_T (int_lt n (pos 0)) h.lt)
@@ -49,7 +27,7 @@ negative-Decides (Long low high nulls distinct) = Decides-or _ _ (below-Decides 
 negative-Decides (Str longest average nulls distinct) = Decides-or _ _ (below-Decides longest) (Decides-or _ _ (below-Decides nulls) (below-Decides distinct))
 
 -- the first broken rule is the computed one
-kind_fault : {Done : Type 0} (column : Column) (value : StatValue) (asks negative : Bool) → Decides asks (AsksForOther column.ty value) → Decides negative (IsNegative value) → (result : Result Done StatFault) → IsFirstBroken None (Some column) value result → result_err result ≡ (if asks then Some WrongKind else if negative then Some Negative else None)
+kind_fault : {Done : Type 0} (column : Column) (value : StatValue) (asks negative : Bool) → Decides asks (IsTrue (asks_for_other (type_kind column.ty) value)) → Decides negative (IsNegative value) → (result : Result Done StatFault) → IsFirstBroken None (Some column) value result → result_err result ≡ (if asks then Some WrongKind else if negative then Some Negative else None)
 kind_fault column value true negative d e (Ok x) h = absurd (h WrongKind (d.0 refl))
 kind_fault column value false true d e (Ok x) h = absurd (h Negative (e.0 refl))
 kind_fault column value false false d e (Ok x) h = refl
@@ -72,4 +50,4 @@ fault_from_first None None value (Err WrongKey) h = absurd (search rules)
 fault_from_first None None value (Err WrongColumn) h = refl
 fault_from_first None None value (Err WrongKind) h = absurd (h.1 WrongColumn (lit< tt) (refl, refl))
 fault_from_first None None value (Err Negative) h = absurd (h.1 WrongColumn (lit< tt) (refl, refl))
-fault_from_first None (Some column) value result h = kind_fault column value (asks_for_other column.ty value) (is_negative value) (other-Decides column.ty value) (negative-Decides value) result h
+fault_from_first None (Some column) value result h = kind_fault column value (asks_for_other (type_kind column.ty) value) (is_negative value) (λ e. e, λ e. e) (negative-Decides value) result h

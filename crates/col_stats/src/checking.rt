@@ -3,10 +3,10 @@
 ghost use Rattle.std.specs.Prelude.{◌≡◌, ◌↔◌, IsTrue};
 ghost use Rattle.std.specs.Option.{option_copied};
 ghost use Rattle.std.specs.Result.{result_err};
-ghost use Rattle.col_stats.specs.Rules.{IsFirstBroken, IsNegative, column_named, first_fault};
+ghost use Rattle.cat_values.specs.Columns.{column_named};
+ghost use Rattle.col_stats.specs.Rules.{IsFirstBroken, IsNegative, asks_for_other, first_fault};
 
-use crate::column_types::asks_for_other;
-use cat_values::{Column, Columns, StatValue, Text};
+use cat_values::{Column, Columns, StatValue, Text, TypeKind, find_column, type_kind};
 
 /// Why a value isn't one of a column's statistics. Where several hold, the first of this order is
 /// answered.
@@ -50,7 +50,7 @@ fn first_broken(
     let Some(column) = column else {
         return Err(StatFault::WrongColumn);
     };
-    if asks_for_other(&column.ty, value) {
+    if asks_for_other(type_kind(&column.ty), value) {
         return Err(StatFault::WrongKind);
     }
     if is_negative(value) {
@@ -59,11 +59,16 @@ fn first_broken(
     Ok(())
 }
 
-// The first column with a name.
-fn find_column<'a>(columns: &'a [Column], name: &Text) -> Option<&'a Column>
-    ensures { option_copied result ≡ column_named columns.now name.now }
+// Whether a column whose type has a kind takes only values of other kinds than this one's.
+fn asks_for_other(kind: TypeKind, value: &StatValue) -> bool
+    ensures { result ≡ asks_for_other kind value.now }
 {
-    columns.iter().find(|column| column.name == *name)
+    match kind {
+        TypeKind::Boolean => !matches!(value, StatValue::Flags { .. }),
+        TypeKind::Integer => !matches!(value, StatValue::Long { .. }),
+        TypeKind::Text => !matches!(value, StatValue::Str { .. }),
+        TypeKind::Date | TypeKind::Other => false,
+    }
 }
 
 // Whether a count of a value is below 0.

@@ -2,7 +2,6 @@
 #![tactic(auto)]
 
 mod checking;
-mod column_types;
 mod keeping;
 
 pub use checking::{StatFault, check};

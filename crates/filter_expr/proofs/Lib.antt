@@ -1,7 +1,6 @@
 pub mod Ascii
 pub mod Calls
 pub mod Digits
-pub mod Fronts
 pub mod Literals
 pub mod Machine
 pub mod OneWay

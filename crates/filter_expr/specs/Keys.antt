@@ -1,9 +1,11 @@
 -- The keys that a filter names: their places, and with which literals they may be compared.
-use Rattle.std.specs.Prelude.{◌≡◌, ◌==◌, ℕ, Bool, true, false, ◌&&◌, ◌||◌, if◌then◌else◌, List, [], ◌∷◌, length, take, map, reverse, codes, find, position, Option, None, Some, is_some}
+use Rattle.std.specs.Prelude.{◌≡◌, ℕ, Bool, true, false, ◌&&◌, if◌then◌else◌, List, [], ◌∷◌, position, Option, None, Some, is_some}
 use Rattle.std.specs.List.{list_all}
 use Rattle.std.specs.Option.{unwrap_or}
-use Rattle.std.specs.Char.{to_ascii_lowercase}
 use Rattle.std.specs.Str.{bytes_eq}
+use Rattle.cat_values.specs.Columns.{column_named, type_kind}
+use Rattle.cat_values.specs.declared.columns.TypeKind.{TypeKind}
+use Rattle.cat_values.specs.declared.columns.TypeKind.TheVariants.{Boolean, Integer, Text, Date, Other}
 use Rattle.cat_values.specs.declared.storage.Column.{Column}
 use Rattle.filter_expr.specs.declared.expr.Kind.{Kind}
 use Rattle.filter_expr.specs.declared.expr.Kind.TheVariants.{TextKey, IntegerKey}
@@ -18,41 +20,20 @@ use Rattle.filter_expr.specs.declared.tree.Test.{Test}
 use Rattle.filter_expr.specs.declared.tree.Test.TheVariants.{Is, Among, Within}
 use Rattle.filter_expr.specs.declared.tree.Written.{Written}
 
--- ---- types
-
--- a text without the spaces at its front, and without those at its back
-abbrev pub without_front_spaces : List ℕ → List ℕ
-without_front_spaces [] = []
-without_front_spaces (byte ∷ bytes) = if byte == 32 then without_front_spaces bytes else byte ∷ bytes
-
-abbrev pub without_back_spaces : List ℕ → List ℕ
-without_back_spaces text = reverse (without_front_spaces (reverse text))
-
--- a type as it is read: without the spaces at its ends, and in lower case
-abbrev pub read_type : List ℕ → List ℕ
-read_type ty = map to_ascii_lowercase (without_back_spaces (without_front_spaces ty))
-
-abbrev pub begins_with : List ℕ → List ℕ → Bool
-begins_with front name = bytes_eq (take (length front) name) front
-
--- the types of text keys and of integer keys; keys of other types may not be compared
-abbrev pub is_text_type : List ℕ → Bool
-is_text_type name = bytes_eq name (codes "string") || (bytes_eq name (codes "date") || (begins_with (codes "varchar(") name || begins_with (codes "char(") name))
-
-abbrev pub is_integer_type : List ℕ → Bool
-is_integer_type name = bytes_eq name (codes "tinyint") || (bytes_eq name (codes "smallint") || (bytes_eq name (codes "int") || bytes_eq name (codes "bigint")))
+-- how keys of a type are compared: as texts or as integers; keys of other types may not be compared
+abbrev pub key_kind : TypeKind → Option Kind
+key_kind Boolean = None
+key_kind Integer = Some IntegerKey
+key_kind Text = Some TextKey
+key_kind Date = Some TextKey
+key_kind Other = None
 
 abbrev pub kind_of : List ℕ → Option Kind
-kind_of ty = if is_text_type (read_type ty) then Some TextKey else if is_integer_type (read_type ty) then Some IntegerKey else None
-
--- ---- keys
+kind_of ty = key_kind (type_kind ty)
 
 -- the place of the first key with a name, and its kind
 abbrev pub place_of : List Column → List ℕ → Option ℕ
 place_of keys name = position (λ column. bytes_eq column.name name) keys
-
-abbrev pub column_named : List Column → List ℕ → Option Column
-column_named keys name = find (λ column. bytes_eq column.name name) keys
 
 abbrev pub kind_if : Option Column → Option Kind
 kind_if None = None

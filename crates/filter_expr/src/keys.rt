@@ -1,21 +1,17 @@
 //! The keys that a filter names.
 
 ghost use Rattle.std.specs.Prelude.{◌≡◌, IfOk, IfErr, None, map, OnOk};
-ghost use Rattle.std.specs.Char.{to_ascii_lowercase};
 ghost use Rattle.std.specs.List.{list_all};
 ghost use Rattle.std.specs.Option.{option_copied};
-ghost use Rattle.filter_expr.specs.Keys.{IsKeyFault, begins_with, bound_step, column_named, first_unknown, first_wrong, fits, is_integer_type, is_right, is_text_type, kind_at, kind_of, place_of, suits, without_back_spaces, without_front_spaces};
+ghost use Rattle.filter_expr.specs.Keys.{IsKeyFault, bound_step, first_unknown, first_wrong, fits, is_right, kind_at, kind_of, place_of, suits};
 ghost use Rattle.filter_expr.specs.Trees.{checks};
 
 use crate::FilterFault;
 use crate::expr::{Comparison, Kind};
 use crate::token::Literal;
 use crate::tree::{Step, Test, Written};
-use cat_values::{Column, NoMemory, Text, TryCopy};
+use cat_values::{Column, NoMemory, Text, TryCopy, TypeKind, find_column, type_kind};
 use std::alloc::Global;
-
-/// What may stand at the ends of a type's text, and isn't part of the type.
-const SPACE: u8 = b' ';
 
 /// Whether each comparison names a key that there is, and compares it with literals of its kind.
 pub fn check_keys(
@@ -90,13 +86,6 @@ fn kind_at(keys: &[Column], name: &Text) -> Option<Kind>
     }
 }
 
-// The first key with a name.
-fn find_column<'a>(keys: &'a [Column], name: &Text) -> Option<&'a Column>
-    ensures { option_copied result ≡ column_named keys.now name.now }
-{
-    keys.iter().find(|column| column.name == *name)
-}
-
 /// The steps of a filter, with the places and kinds of its keys.
 pub fn bind(
     alloc: Global,
@@ -153,68 +142,17 @@ fn fits(kind: Kind, literal: &Literal) -> bool
     match (kind, literal) {
         (Kind::TextKey, Literal::Quoted(_)) => true,
         (Kind::IntegerKey, Literal::Number(_)) => true,
-        _ => false,
+        (Kind::TextKey, Literal::Number(_)) | (Kind::IntegerKey, Literal::Quoted(_)) => false,
     }
 }
 
-// How keys of a type are compared. The type is read in lower case and without the spaces at its
-// ends.
+// How keys of a type are compared.
 fn kind_of(ty: &Text) -> Option<Kind>
     ensures { result ≡ kind_of ty.now }
 {
-    let name = trimmed_back(trimmed_front(ty.as_str().as_bytes()));
-    if is_text_type(name) {
-        Some(Kind::TextKey)
-    } else if is_integer_type(name) {
-        Some(Kind::IntegerKey)
-    } else {
-        None
+    match type_kind(ty) {
+        TypeKind::Text | TypeKind::Date => Some(Kind::TextKey),
+        TypeKind::Integer => Some(Kind::IntegerKey),
+        TypeKind::Boolean | TypeKind::Other => None,
     }
-}
-
-fn is_text_type(name: &[u8]) -> bool
-    ensures { result ≡ is_text_type (map to_ascii_lowercase name.now) }
-{
-    name.eq_ignore_ascii_case(b"string")
-        || name.eq_ignore_ascii_case(b"date")
-        || begins_with(name, b"varchar(")
-        || begins_with(name, b"char(")
-}
-
-fn is_integer_type(name: &[u8]) -> bool
-    ensures { result ≡ is_integer_type (map to_ascii_lowercase name.now) }
-{
-    name.eq_ignore_ascii_case(b"tinyint")
-        || name.eq_ignore_ascii_case(b"smallint")
-        || name.eq_ignore_ascii_case(b"int")
-        || name.eq_ignore_ascii_case(b"bigint")
-}
-
-// Whether a text begins with a front, whatever the case of its letters.
-fn begins_with(text: &[u8], front: &[u8]) -> bool
-    ensures { result ≡ begins_with (map to_ascii_lowercase front.now) (map to_ascii_lowercase text.now) }
-{
-    front.len() <= text.len() && text[..front.len()].eq_ignore_ascii_case(front)
-}
-
-// What is left of a text behind the spaces at its front.
-fn trimmed_front(text: &[u8]) -> &[u8]
-    ensures { result.now ≡ without_front_spaces text.now }
-{
-    let mut left = text;
-    while let [SPACE, rest @ ..] = left {
-        left = rest;
-    }
-    left
-}
-
-// What is left of a text before the spaces at its back.
-fn trimmed_back(text: &[u8]) -> &[u8]
-    ensures { result.now ≡ without_back_spaces text.now }
-{
-    let mut left = text;
-    while let [rest @ .., SPACE] = left {
-        left = rest;
-    }
-    left
 }

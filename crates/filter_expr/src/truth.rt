@@ -85,7 +85,8 @@ fn order(value: Compared<'_>, literal: &Literal) -> Option<Ordering>
     match (value, literal) {
         (Compared::Text(bytes), Literal::Quoted(text)) => Some(bytes.cmp(text.as_slice())),
         (Compared::Integer(number), Literal::Number(other)) => Some(number.cmp(other)),
-        _ => None,
+        (Compared::Text(_), Literal::Number(_)) | (Compared::Integer(_), Literal::Quoted(_)) =>
+            None,
     }
 }
 

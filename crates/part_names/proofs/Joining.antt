@@ -4,7 +4,8 @@ use Rattle.std.proofs.lemmas.Bool.Decides.{nat_tests}
 use Rattle.std.proofs.lemmas.List.{append-nil, append_assoc, length-append}
 use Rattle.std.specs.List.{flat_map, join_with_byte}
 use Rattle.std.specs.Prelude.{◌==◌, All}
-use Rattle.part_names.specs.Making.{IsObjectName, IsValidValue, component, components_of, grown, escape_of, escaped, is_escaped, part_name, stored}
+use Rattle.cat_values.specs.Names.{IsObjectName}
+use Rattle.part_names.specs.Making.{IsValidValue, component, components_of, grown, escape_of, escaped, is_escaped, part_name, stored}
 use Rattle.cat_values.specs.declared.text.TheConstants.{TEXT_LIMIT}
 use Rattle.part_names.proofs.Escaping.{escape_of-plain, escape_of-marked}
 

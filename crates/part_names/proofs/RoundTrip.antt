@@ -9,7 +9,8 @@ use Rattle.std.proofs.lemmas.Str.{encode_ascii}
 use Rattle.std.specs.Char.{digit_value, to_ascii_lowercase}
 use Rattle.std.specs.List.{AllByRecursion, position_from}
 use Rattle.std.specs.Prelude.{◌==◌, ◌||◌, All, None, encode_utf8}
-use Rattle.part_names.specs.Making.{IsObjectName, IsNameByte, component, components_of, escape_of, escaped, is_escaped, part_name, stored, upper_digit}
+use Rattle.cat_values.specs.Names.{IsObjectName, IsNameByte}
+use Rattle.part_names.specs.Making.{component, components_of, escape_of, escaped, is_escaped, part_name, stored, upper_digit}
 use Rattle.part_names.specs.Reading.{components, is_escape, is_unreadable, key_of, unescaped, vals, value_of, written_key, written_value}
 use Rattle.part_names.specs.Laws.{NamesReadBack, NamesDiffer}
 use Rattle.part_names.proofs.Cutting.{IsPart, Lacks, Lacks-nil, Lacks-cons, before_first-at, after_first-at, components-join}

@@ -1,7 +1,8 @@
 -- What holds of the names that are made and of what is read from them.
 use Rattle.std.specs.Prelude.{◌≡◌, ℕ, List, length, map, All, None}
 use Rattle.std.specs.Str.{str_to_ascii_lowercase}
-use Rattle.part_names.specs.Making.{IsObjectName, part_name, stored}
+use Rattle.cat_values.specs.Names.{IsObjectName}
+use Rattle.part_names.specs.Making.{part_name, stored}
 use Rattle.part_names.specs.Reading.{first_unreadable, keys_in, vals}
 
 -- a name that is made can be read, and gives its values back, the empty ones as the value that stands

@@ -1,20 +1,8 @@
--- How the name of a partition is made of its keys and values. Texts are their bytes: 37 is %, 47 is /, 61 is = and 95 is _.
-use Rattle.std.specs.Prelude.{◌≡◌, ◌≢◌, ℕ, ◌≤◌, ◌/◌, ◌%◌, ◌==◌, Bool, ◌||◌, if◌then◌else◌, ◌⊎◌, List, [], ◌∷◌, ◌++◌, length, map, All, codes}
-use Rattle.std.specs.Char.{IsAsciiAlphanumeric, digit_char, to_ascii_uppercase}
+-- How the name of a partition is made of its keys and values. Texts are their bytes: 37 is %, 47 is / and 61 is =.
+use Rattle.std.specs.Prelude.{◌≢◌, ℕ, ◌≤◌, ◌/◌, ◌%◌, ◌==◌, Bool, ◌||◌, if◌then◌else◌, List, [], ◌∷◌, ◌++◌, length, map, All, codes}
+use Rattle.std.specs.Char.{digit_char, to_ascii_uppercase}
 use Rattle.std.specs.Int.{is_in_range}
 use Rattle.std.specs.List.{flat_map, join_with_byte, list_any, zip}
-
--- an ASCII letter, a digit or _
-abbrev pub IsNameByte : ℕ → Type 0
-IsNameByte byte = IsAsciiAlphanumeric byte ⊎ (byte ≡ 95)
-
--- not empty, and no longer than a name may be
-abbrev pub HasNameLength : List ℕ → Type 0
-HasNameLength name = (1 ≤ length name) × (length name ≤ 128)
-
--- the name of a partition key
-abbrev pub IsObjectName : List ℕ → Type 0
-IsObjectName name = HasNameLength name × All IsNameByte name
 
 -- no longer than a value may be, and without U+0000
 abbrev pub IsValidValue : List ℕ → Type 0

@@ -5,6 +5,8 @@ use Rattle.std.specs.Char.{digit_value, is_digit, to_ascii_lowercase}
 use Rattle.std.specs.Cmp.Lexicographic.{slice_cmp}
 use Rattle.std.specs.List.{after_first, before_first, position_from, slice_split}
 use Rattle.std.specs.Ordering.{nat_cmp}
+use Rattle.part_names.specs.declared.reading.Part.{Part}
+use Rattle.part_names.specs.declared.reading.Part.TheVariants.{Key, Value}
 
 -- what stands between the slashes of a name; the empty name has nothing
 abbrev pub components : List ℕ → List (List ℕ)
@@ -54,6 +56,14 @@ value_of text = unescaped (written_value text)
 
 abbrev pub key_of : List ℕ → List ℕ
 key_of text = map to_ascii_lowercase (unescaped (written_key text))
+
+-- the key or the value that a component spells, by its two texts as they are written
+abbrev pub part_by : Part → List ℕ → List ℕ → List ℕ
+part_by Key key value = map to_ascii_lowercase (unescaped key)
+part_by Value key value = unescaped value
+
+abbrev pub part_of : Part → List ℕ → List ℕ
+part_of part text = part_by part (written_key text) (written_value text)
 
 -- the values that a name spells, in its order
 abbrev pub vals : List ℕ → List (List ℕ)

@@ -13,6 +13,7 @@ mod making;
 mod reading;
 mod values;
 
+pub use cat_values::{KEYS_LIMIT, NAME_LIMIT};
 pub use fault::NameFault;
 pub use laws::{names_differ, names_read_back};
 pub use making::make_name;
@@ -21,12 +22,6 @@ pub use values::valid_value;
 
 /// The value that stands for an empty one.
 pub const DEFAULT_VALUE: &str = "__HIVE_DEFAULT_PARTITION__";
-
-/// How many keys a name has at most.
-pub const KEYS_LIMIT: usize = 16;
-
-/// How many bytes a key has at most.
-pub const NAME_LIMIT: usize = 128;
 
 /// How many bytes a value has at most.
 pub const VALUE_LIMIT: usize = 4_000;

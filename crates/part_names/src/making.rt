@@ -1,7 +1,8 @@
 //! Names made of keys and values.
 
 ghost use Rattle.std.specs.Prelude.{◌≡◌, ◌≤◌, length, All, IfOk, OnOk, string_bytes};
-ghost use Rattle.part_names.specs.Making.{IsObjectName, IsValidValue, component, grown, part_name};
+ghost use Rattle.cat_values.specs.Names.{IsObjectName};
+ghost use Rattle.part_names.specs.Making.{IsValidValue, component, grown, part_name};
 
 use crate::escapes::{push_escaped, text_of};
 use crate::values::stored_text;

@@ -6,7 +6,7 @@ ghost use Rattle.std.specs.Char.{to_ascii_lowercase};
 ghost use Rattle.std.specs.Option.{option_copied};
 ghost use Rattle.cat_values.specs.declared.text.TheConstants.{TEXT_LIMIT};
 ghost use Rattle.part_names.specs.Reading.{components, components_left, first_component, first_unreadable};
-ghost use Rattle.part_names.specs.Reading.{is_unreadable, keys_in, spec, unescaped, vals, written_key, written_value};
+ghost use Rattle.part_names.specs.Reading.{is_unreadable, keys_in, part_by, part_of, spec, unescaped, vals, written_key, written_value};
 
 use crate::NameFault;
 use crate::escapes::{text_of, undo_escapes};
@@ -25,16 +25,7 @@ pub fn vals_of(alloc: Global, name: &Text) -> Result<Texts, NameFault>
     ensures bad { (i : ℕ) → IsErrOf result (NameFault.BadName i)
         → first_unreadable name.now ≡ Some i }
 {
-    let mut values = Texts::new(alloc);
-    let mut rest = components(name);
-    while let Some(text) = rest {
-        let Some(first) = first_component(text) else {
-            return Err(NameFault::BadName(values.len() as u64));
-        };
-        values.push(value_text(alloc, first.value)?)?;
-        rest = first.after;
-    }
-    Ok(values)
+    parts_of(alloc, name, Part::Value)
 }
 
 /// The keys that a name spells, in its order and in lower case.
@@ -47,16 +38,33 @@ pub fn keys_of(alloc: Global, name: &Text) -> Result<Texts, NameFault>
     ensures bad { (i : ℕ) → IsErrOf result (NameFault.BadName i)
         → first_unreadable name.now ≡ Some i }
 {
-    let mut keys = Texts::new(alloc);
+    parts_of(alloc, name, Part::Key)
+}
+
+// Which text of a component is meant.
+#[derive(Clone, Copy)]
+enum Part {
+    Key,
+    Value,
+}
+
+// The keys or the values that a name spells, in its order.
+fn parts_of(alloc: Global, name: &Text, part: Part) -> Result<Texts, NameFault>
+    ensures texts { IfOk result (λ texts. texts ≡ map (part_of part) (components name.now)) }
+    ensures readable { OnOk result (first_unreadable name.now ≡ None) }
+    ensures bad { (i : ℕ) → IsErrOf result (NameFault.BadName i)
+        → first_unreadable name.now ≡ Some i }
+{
+    let mut texts = Texts::new(alloc);
     let mut rest = components(name);
     while let Some(text) = rest {
         let Some(first) = first_component(text) else {
-            return Err(NameFault::BadName(keys.len() as u64));
+            return Err(NameFault::BadName(texts.len() as u64));
         };
-        keys.push(key_text(alloc, first.key)?)?;
+        texts.push(part_text(alloc, part, first.key, first.value)?)?;
         rest = first.after;
     }
-    Ok(keys)
+    Ok(texts)
 }
 
 /// The map from the keys that a name spells, in lower case, to their values. Of a repeated key the
@@ -144,6 +152,17 @@ fn cut_component(text: &str) -> (&str, Option<&str>)
     match text.split_once('/') {
         Some((component, after)) => (component, Some(after)),
         None => (text, None),
+    }
+}
+
+// What the key or the value of a component spells.
+fn part_text(alloc: Global, part: Part, key: &str, value: &str) -> Result<Text, NoMemory>
+    requires { (length key.now ≤ TEXT_LIMIT) × (length value.now ≤ TEXT_LIMIT) }
+    ensures { IfOk result (λ text. text ≡ part_by part key.now value.now) }
+{
+    match part {
+        Part::Key => key_text(alloc, key),
+        Part::Value => value_text(alloc, value),
     }
 }
 

@@ -12,18 +12,11 @@ use filters::run_filters;
 use object_names::run_names;
 use partitions::run_partitions;
 use statistics::run_statistics;
-use std::process::ExitCode;
 use std::rt::Files;
 use table_cases::Unable;
 
-fn main(rt: HostRuntime) -> ExitCode {
-    match run(&rt) {
-        Ok(()) => ExitCode::SUCCESS,
-        Err(unable) => {
-            let _ = eprintln!(rt; "{unable}");
-            ExitCode::FAILURE
-        }
-    }
+fn main(rt: HostRuntime) -> Result<(), Unable> {
+    run(&rt)
 }
 
 fn run(rt: &(impl Files + Print + AllocGlobal)) -> Result<(), Unable> {

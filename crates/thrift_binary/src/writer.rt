@@ -3,7 +3,7 @@
 ghost use Rattle.std.specs.Prelude.{◌≡◌, ◌<◌, ◌≤◌, ◌^◌, ◌++◌, [], ◌∷◌, ℕ, pos, take, IsErrOf, OnErr, OnOk};
 ghost use Rattle.hms_outside.specs.Causes.{Rose, StaysBut};
 ghost use Rattle.hms_outside.specs.Told.{Goes, Grew, Sent};
-ghost use Rattle.thrift_binary.specs.Sending.{Gathers};
+ghost use Rattle.cat_values.specs.Gathering.{Gathers};
 ghost use Rattle.thrift_binary.specs.Strict.{field_bytes, flag_bytes, head_bytes, list_bytes, map_bytes};
 ghost use Rattle.thrift_binary.specs.Wire.{byte_bytes, int_bytes, long_bytes, short_bytes, text_bytes};
 

@@ -3,16 +3,16 @@ use Rattle.change_codec.proofs.Steady.{entry-steady, event-steady, events-steady
 use Rattle.change_codec.proofs.laws.each_is_cut_at_its_end.Goals as goal
 
 pub returns-clause-event : goal.returns-clause-event
-returns-clause-event c = let p = event-lawful in cut_at_its_end _ event-steady p.again
+returns-clause-event c version = let p = event-lawful version in cut_at_its_end _ (event-steady version) p.again
 
 pub returns-clause-events : goal.returns-clause-events
-returns-clause-events c = let p = events-lawful in cut_at_its_end _ events-steady p.again
+returns-clause-events c version = let p = events-lawful version in cut_at_its_end _ (events-steady version) p.again
 
 pub returns-clause-item : goal.returns-clause-item
-returns-clause-item c = let p = item-lawful in cut_at_its_end _ item-steady p.again
+returns-clause-item c version = let p = item-lawful version in cut_at_its_end _ (item-steady version) p.again
 
 pub returns-clause-items : goal.returns-clause-items
-returns-clause-items c = let p = items-lawful in cut_at_its_end _ items-steady p.again
+returns-clause-items c version = let p = items-lawful version in cut_at_its_end _ (items-steady version) p.again
 
 pub returns-clause-entry : goal.returns-clause-entry
-returns-clause-entry c = let p = entry-lawful in cut_at_its_end _ entry-steady p.again
+returns-clause-entry c version = let p = entry-lawful version in cut_at_its_end _ (entry-steady version) p.again

@@ -2,16 +2,16 @@ use Rattle.change_codec.proofs.Lawful.{entry-lawful, event-lawful, events-lawful
 use Rattle.change_codec.proofs.laws.each_is_spelled_as_read.Goals as goal
 
 pub returns-clause-event : goal.returns-clause-event
-returns-clause-event c = event-lawful.spelled
+returns-clause-event c version = let p = event-lawful version in p.spelled
 
 pub returns-clause-events : goal.returns-clause-events
-returns-clause-events c = events-lawful.spelled
+returns-clause-events c version = let p = events-lawful version in p.spelled
 
 pub returns-clause-item : goal.returns-clause-item
-returns-clause-item c = item-lawful.spelled
+returns-clause-item c version = let p = item-lawful version in p.spelled
 
 pub returns-clause-items : goal.returns-clause-items
-returns-clause-items c = items-lawful.spelled
+returns-clause-items c version = let p = items-lawful version in p.spelled
 
 pub returns-clause-entry : goal.returns-clause-entry
-returns-clause-entry c = entry-lawful.spelled
+returns-clause-entry c version = let p = entry-lawful version in p.spelled

@@ -1,5 +1,6 @@
 use Rattle.std.proofs.Common.{rules}
-use Rattle.col_stats.specs.Rules.{IsFirstBroken, column_named}
+use Rattle.cat_values.specs.Columns.{column_named}
+use Rattle.col_stats.specs.Rules.{IsFirstBroken}
 use Rattle.col_stats.proofs.Deciding.{fault_from_first}
 use Rattle.col_stats.proofs.checking.check.Goals as goal
 

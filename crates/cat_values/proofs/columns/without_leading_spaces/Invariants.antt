@@ -1,10 +1,10 @@
 use Rattle.std.proofs.Common.{◌≡◌, length}
-use Rattle.col_stats.specs.Types.{without_back_spaces}
-use Rattle.col_stats.proofs.column_types.trimmed_back.Given as goal
+use Rattle.cat_values.specs.Columns.{without_leading_spaces}
+use Rattle.cat_values.proofs.columns.without_leading_spaces.Given as goal
 
 -- what is left is trimmed to the same text
 abbrev pub invariant-loop-left : goal.invariant-loop-left
-invariant-loop-left l = without_back_spaces l.left ≡ without_back_spaces l.fn.text
+invariant-loop-left l = without_leading_spaces l.left ≡ without_leading_spaces l.fn.text
 
 abbrev pub decreases-loop-left : goal.decreases-loop-left
 decreases-loop-left l = length l.left

@@ -1,9 +1,9 @@
 //! What objects and columns may be called.
 
 ghost use Rattle.std.specs.Prelude.{◌≡◌, ◌↔◌, IsTrue};
-ghost use Rattle.cat_rules.specs.Names.{HasNameLength, IsNameByte, IsObjectName, is_object_name};
+ghost use Rattle.cat_values.specs.Names.{HasNameLength, IsNameByte, IsObjectName, is_object_name};
 
-use cat_values::Text;
+use crate::Text;
 
 /// The one byte that a name may have beside letters and digits.
 const UNDERSCORE: u8 = b'_';
@@ -25,8 +25,8 @@ pub fn object_name(name: &Text) -> bool
             .all(|byte| is_name_byte(*byte))
 }
 
-// Whether a text has as many bytes as a name.
-pub(crate) fn has_name_length(name: &Text) -> bool
+/// Whether a text has as many bytes as a name has, 1 to 128. A column may have any such name.
+pub fn has_name_length(name: &Text) -> bool
     ensures { IsTrue result ↔ HasNameLength name.now }
 {
     !name.is_empty() && name.len() <= NAME_LIMIT

@@ -1,6 +1,6 @@
 use Rattle.std.proofs.Common.{refl}
 use Rattle.part_names.proofs.Parts.{unreadable_first}
-use Rattle.part_names.proofs.reading.vals_of.Goals as goal
+use Rattle.part_names.proofs.reading.parts_of.Goals as goal
 
 pub returns-in_default-first_component-clause-bad : goal.returns-in_default-first_component-clause-bad
 returns-in_default-first_component-clause-bad c = λ i told.

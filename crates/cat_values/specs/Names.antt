@@ -10,7 +10,7 @@ IsNameByte byte = IsAsciiAlphanumeric byte ⊎ (byte ≡ 95)
 abbrev pub is_name_byte : ℕ → Bool
 is_name_byte byte = is_ascii_alphanumeric byte || byte == 95
 
--- not empty, and no longer than a name may be
+-- of 1 to 128 bytes, as every name is; a column may be called by any text of that length
 abbrev pub HasNameLength : List ℕ → Type 0
 HasNameLength name = (1 ≤ length name) × (length name ≤ 128)
 
