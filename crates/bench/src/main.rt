@@ -13,6 +13,8 @@
 //!   was read.
 //! - `wire_write COUNT`: a reply that tells a table of 50 columns is gathered and sent; a sum of its
 //!   bytes.
+//! - `events keep COUNT`, `events poll KEPT NEWEST POLLS`: so many events are kept in a log, and its
+//!   newest ones are polled so often; the number of the newest event, or a sum of those polled.
 //! - `lock THREADS TURNS`: each thread takes so many turns under the lock; how many turns were
 //!   counted.
 //!
@@ -20,6 +22,7 @@
 #![tactic(auto)]
 
 mod counter;
+mod events;
 mod filter;
 mod lock;
 mod names;
@@ -102,6 +105,12 @@ fn perform<R: Print + Alloc<A = Global> + Threads + Wait + Sync>(
             return print_read(rt, wire_read::read(alloc, reading, rounds, size)?);
         }
         Work::WireWrite { count } => wire_write::write(alloc, count),
+        Work::Keep { count } => events::keep(alloc, count),
+        Work::Poll {
+            kept,
+            newest,
+            polls,
+        } => events::poll(alloc, kept, polls, newest),
         Work::Lock { threads, turns } => lock::take_turns(rt, alloc, threads, turns),
     }?;
     println!(rt; "{sum}")?;

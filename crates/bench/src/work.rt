@@ -38,6 +38,14 @@ pub enum Work {
     WireWrite {
         count: u32,
     },
+    Keep {
+        count: u32,
+    },
+    Poll {
+        kept: u32,
+        newest: u32,
+        polls: u32,
+    },
     Lock {
         threads: u8,
         turns: u32,
@@ -45,7 +53,7 @@ pub enum Work {
 }
 
 /// Each piece of work once, and little of it.
-pub const EACH: [Work; 12] = [
+pub const EACH: [Work; 14] = [
     Work::Make { count: 3 },
     Work::Vals { count: 3 },
     Work::Spec { count: 3 },
@@ -68,6 +76,12 @@ pub const EACH: [Work; 12] = [
         size: 1,
     },
     Work::WireWrite { count: 3 },
+    Work::Keep { count: 20 },
+    Work::Poll {
+        kept: 20,
+        newest: 3,
+        polls: 2,
+    },
     Work::Lock {
         threads: 2,
         turns: 50,
@@ -85,6 +99,7 @@ pub fn named_work(words: &[String]) -> Option<Work> {
         "records" => records(words),
         "wire_read" => wire_read(words),
         "wire_write" => wire_write(words),
+        "events" => events(words),
         "lock" => lock(words),
         _ => None,
     }
@@ -150,6 +165,23 @@ fn wire_write(words: &[String]) -> Option<Work> {
     Some(Work::WireWrite {
         count: number(count)?,
     })
+}
+
+fn events(words: &[String]) -> Option<Work> {
+    let [word, numbers @ ..] = words else {
+        return None;
+    };
+    match (word.as_str(), numbers) {
+        ("keep", [count]) => Some(Work::Keep {
+            count: number(count)?,
+        }),
+        ("poll", [kept, newest, polls]) => Some(Work::Poll {
+            kept: number(kept)?,
+            newest: number(newest)?,
+            polls: number(polls)?,
+        }),
+        _ => None,
+    }
 }
 
 fn lock(words: &[String]) -> Option<Work> {

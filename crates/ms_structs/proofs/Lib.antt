@@ -1,5 +1,6 @@
 pub mod Getting
 pub mod Beginning
+pub mod EventsWritten
 pub mod FieldsSoFar
 pub mod ElementsSoFar
 pub mod EntriesSoFar
@@ -8,5 +9,6 @@ pub mod Others
 pub mod Said
 pub mod DatabaseSaid
 pub mod PiecesWritten
+pub mod RequestSaid
 pub mod RoundTrip
 pub mod LastPairs

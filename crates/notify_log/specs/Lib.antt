@@ -1,0 +1,3 @@
+pub mod Logs
+pub mod Messages
+pub mod Values
