@@ -17,11 +17,11 @@ use Rattle.ms_calls.specs.declared.method.Method.{Method}
 use Rattle.ms_calls.specs.declared.method.Method.TheVariants as method
 use Rattle.ms_calls.specs.declared.request.Asked.{Asked}
 use Rattle.ms_calls.specs.Arguments.{create_database_asks, get_database_asks, set_ugi_asks}
-use Rattle.ms_calls.specs.Asked.{IfClient, IfPlain, asked_by, method_of}
+use Rattle.ms_calls.specs.Asked.{CameAs, IfClient, IfPlain, asked_by}
 use Rattle.ms_calls.specs.Replies.{CanReply}
 
 abbrev Fits : Option Method → Asked → Type 0
-Fits m asked = IfPlain asked (CanReply m) × IfClient asked (λ call. m ≡ Some (method_of call))
+Fits m asked = IfPlain asked (CanReply m) × IfClient asked (CameAs m)
 
 name_fits : (name : Got (List ℕ)) → Fits (Some method.GetDatabase) (get_database_asks name)
 name_fits Nothing = (tt, tt)
@@ -36,31 +36,31 @@ db_fits (Is db) = (tt, refl)
 user_fits : (user : Got (List ℕ)) (groups : Got (List (List ℕ))) → Fits (Some method.SetUgi) (set_ugi_asks user groups)
 user_fits Nothing groups = (tt, tt)
 user_fits BadText groups = (tt, tt)
-user_fits (Is user) Nothing = (tt, tt)
+user_fits (Is user) Nothing = (refl, tt)
 user_fits (Is user) BadText = (tt, tt)
-user_fits (Is user) (Is groups) = (tt, tt)
+user_fits (Is user) (Is groups) = (refl, tt)
 
 asked_fits : (m : Option Method) (v : Fields) → Fits m (asked_by m v)
 asked_fits None v = (tt, tt)
 asked_fits (Some method.GetName) v = (refl, tt)
-asked_fits (Some method.GetStatus) v = (tt, tt)
+asked_fits (Some method.GetStatus) v = (refl, tt)
 asked_fits (Some method.Shutdown) v = (tt, tt)
 asked_fits (Some method.SetUgi) v = user_fits (said (pos 1) 11 text_of v) (said (pos 2) 15 (items_of 11 text_of) v)
-asked_fits (Some method.GetAllFunctions) v = (tt, tt)
+asked_fits (Some method.GetAllFunctions) v = (refl, tt)
 asked_fits (Some method.CreateDatabase) v = db_fits (said (pos 1) 12 database_of v)
 asked_fits (Some method.GetDatabase) v = name_fits (said (pos 1) 11 text_of v)
 asked_fits (Some method.GetAllDatabases) v = (tt, refl)
 
 -- so does what was read
-pub read_fits : (m n : Option Method) (a b : Option (List ℕ)) (p q : Progress) (result : Result Asked WireFault) (depth : ℕ) (Stops : Stop → List ℕ → Type 0)
-    → m ≡ n → Gets a b p q result (λ v. IsWire (Struct v) depth 12) (λ v asked. asked ≡ asked_by m v) Stops → IfOk result (Fits n)
-read_fits m n a b p q (Ok asked) depth Stops same h = subst (λ k. Fits k asked) same (subst (Fits m) (sym h.holds.2) (asked_fits m h.holds.0))
-read_fits m n a b p q (Err e) depth Stops same h = tt
+pub read_fits : (m : Option Method) (a b : Option (List ℕ)) (p q : Progress) (result : Result Asked WireFault) (depth : ℕ) (Stops : Stop → List ℕ → Type 0)
+    → Gets a b p q result (λ v. IsWire (Struct v) depth 12) (λ v asked. asked ≡ asked_by m v) Stops → IfOk result (Fits m)
+read_fits m a b p q (Ok asked) depth Stops h = subst (Fits m) (sym h.holds.2) (asked_fits m h.holds.0)
+read_fits m a b p q (Err e) depth Stops h = tt
 
 pub fits_plain : (m : Option Method) (result : Result Asked WireFault) → IfOk result (Fits m) → IfOk result (λ asked. IfPlain asked (CanReply m))
 fits_plain m (Ok asked) h = h.0
 fits_plain m (Err e) h = tt
 
-pub fits_client : (m : Option Method) (result : Result Asked WireFault) → IfOk result (Fits m) → IfOk result (λ asked. IfClient asked (λ call. m ≡ Some (method_of call)))
+pub fits_client : (m : Option Method) (result : Result Asked WireFault) → IfOk result (Fits m) → IfOk result (λ asked. IfClient asked (CameAs m))
 fits_client m (Ok asked) h = h.1
 fits_client m (Err e) h = tt

@@ -12,6 +12,7 @@ use Rattle.ms_calls.specs.declared.naming.NameArgument.{NameArgument}
 use Rattle.ms_calls.specs.declared.ugi.UserArguments.{UserArguments}
 use Rattle.ms_structs.specs.Database.{database_of}
 use Rattle.ms_structs.specs.Slots.{slot}
+use Rattle.thrift_binary.specs.Codes.{list_code, struct_code, text_code}
 use Rattle.thrift_binary.specs.Tree.{Wire}
 use Rattle.ms_structs.specs.Values.{items_of, text_of}
 
@@ -35,7 +36,7 @@ abbrev pub name_none : NameArgument
 name_none = record { name = Nothing }
 
 abbrev pub name_set : NameArgument → ℕ → ℤ → Wire → NameArgument
-name_set f ty id w = record { name = slot (pos 1) 11 text_of f.name ty id w }
+name_set f ty id w = record { name = slot (pos 1) text_code text_of f.name ty id w }
 
 abbrev pub name_asks : NameArgument → Asked
 name_asks f = get_database_asks f.name
@@ -48,7 +49,7 @@ abbrev pub db_none : DatabaseArgument
 db_none = record { db = Nothing }
 
 abbrev pub db_set : DatabaseArgument → ℕ → ℤ → Wire → DatabaseArgument
-db_set f ty id w = record { db = slot (pos 1) 12 database_of f.db ty id w }
+db_set f ty id w = record { db = slot (pos 1) struct_code database_of f.db ty id w }
 
 abbrev pub db_asks : DatabaseArgument → Asked
 db_asks f = create_database_asks f.db
@@ -61,7 +62,7 @@ abbrev pub user_none : UserArguments
 user_none = record { user = Nothing; groups = Nothing }
 
 abbrev pub user_set : UserArguments → ℕ → ℤ → Wire → UserArguments
-user_set f ty id w = record { user = slot (pos 1) 11 text_of f.user ty id w; groups = slot (pos 2) 15 (items_of 11 text_of) f.groups ty id w }
+user_set f ty id w = record { user = slot (pos 1) text_code text_of f.user ty id w; groups = slot (pos 2) list_code (items_of text_code text_of) f.groups ty id w }
 
 abbrev pub user_asks : UserArguments → Asked
 user_asks f = set_ugi_asks f.user f.groups

@@ -1,16 +1,26 @@
 -- How refusals are told.
 use Rattle.std.specs.Prelude.{◌==◌, ◌||◌, ℕ, Option, None, Some, ℤ, pos, if◌then◌else◌}
 use Rattle.ms_calls.specs.declared.method.Method.{Method}
-use Rattle.ms_calls.specs.declared.method.Method.TheVariants.{SetUgi, GetAllFunctions, CreateDatabase, GetDatabase, GetAllDatabases}
+use Rattle.ms_calls.specs.declared.method.Method.TheVariants.{GetName, GetStatus, Shutdown, SetUgi, GetAllFunctions, CreateDatabase, GetDatabase, GetAllDatabases}
 use Rattle.ms_calls.specs.declared.exception.Exception.{Exception}
 use Rattle.ms_calls.specs.declared.exception.Exception.TheVariants.{AlreadyExists, NoSuchObject, InvalidObject, InvalidOperation, InvalidInput, Meta}
+
+-- the codes of a TApplicationException: the method is unknown, the server failed, the message isn't spelled as the call wants it
+abbrev pub unknown_method_code : ℤ
+unknown_method_code = pos 1
+
+abbrev pub internal_error_code : ℤ
+internal_error_code = pos 6
+
+abbrev pub protocol_error_code : ℤ
+protocol_error_code = pos 7
 
 -- an unknown method, a bad argument and want of memory may answer every call; each has a code of its own
 abbrev pub general_code : ℕ → Option ℤ
 general_code number =
-    if number == 9 then Some (pos 1)
-    else (if number == 10 then Some (pos 7)
-    else (if number == 11 then Some (pos 6)
+    if number == 9 then Some unknown_method_code
+    else (if number == 10 then Some protocol_error_code
+    else (if number == 11 then Some internal_error_code
     else None))
 
 -- filters, replicas, store faults, event numbers, requests, dumps and loads are refused as faults of the metastore
@@ -24,17 +34,45 @@ exception_of number =
     else (if (number == 6) || ((number == 7) || ((number == 8) || ((number == 12) || ((number == 13) || ((number == 14) || (number == 15)))))) then Some Meta
     else None)))))
 
+-- Calls declare the same exceptions in a few orders; an exception's id is its place in that order, from 1 on.
+
+-- a fault of the metastore alone
+abbrev pub meta_alone : Exception → Option ℤ
+meta_alone Meta = Some (pos 1)
+meta_alone AlreadyExists = None
+meta_alone NoSuchObject = None
+meta_alone InvalidObject = None
+meta_alone InvalidOperation = None
+meta_alone InvalidInput = None
+
+-- already exists, invalid object, a fault of the metastore
+abbrev pub exists_invalid_meta : Exception → Option ℤ
+exists_invalid_meta AlreadyExists = Some (pos 1)
+exists_invalid_meta InvalidObject = Some (pos 2)
+exists_invalid_meta Meta = Some (pos 3)
+exists_invalid_meta NoSuchObject = None
+exists_invalid_meta InvalidOperation = None
+exists_invalid_meta InvalidInput = None
+
+-- no such object, a fault of the metastore
+abbrev pub missing_meta : Exception → Option ℤ
+missing_meta NoSuchObject = Some (pos 1)
+missing_meta Meta = Some (pos 2)
+missing_meta AlreadyExists = None
+missing_meta InvalidObject = None
+missing_meta InvalidOperation = None
+missing_meta InvalidInput = None
+
 -- the field under which a call declares an exception
 abbrev pub exception_id : Method → Exception → Option ℤ
-exception_id SetUgi Meta = Some (pos 1)
-exception_id GetAllFunctions Meta = Some (pos 1)
-exception_id CreateDatabase AlreadyExists = Some (pos 1)
-exception_id CreateDatabase InvalidObject = Some (pos 2)
-exception_id CreateDatabase Meta = Some (pos 3)
-exception_id GetDatabase NoSuchObject = Some (pos 1)
-exception_id GetDatabase Meta = Some (pos 2)
-exception_id GetAllDatabases Meta = Some (pos 1)
-exception_id method exception = None
+exception_id GetName exception = None
+exception_id GetStatus exception = None
+exception_id Shutdown exception = None
+exception_id SetUgi exception = meta_alone exception
+exception_id GetAllFunctions exception = meta_alone exception
+exception_id CreateDatabase exception = exists_invalid_meta exception
+exception_id GetDatabase exception = missing_meta exception
+exception_id GetAllDatabases exception = meta_alone exception
 
 -- the field under which a call declares the exception of a refusal
 abbrev pub id_of : Method → Option Exception → Option ℤ

@@ -1,7 +1,9 @@
 -- The reply to a message: which replies a call can have, and how each is sent.
-use Rattle.std.specs.Prelude.{◌≡◌, ◌⊎◌, ⊤, ℕ, List, [], ◌∷◌, length, Option, None, Some, IsSome, ℤ, pos}
+use Rattle.std.specs.Prelude.{ℕ, List, [], ◌∷◌, Option, None, Some, IsSome, ℤ, pos}
 use Rattle.cat_types.specs.declared.replies.Reply.{Reply}
 use Rattle.cat_types.specs.declared.replies.Reply.TheVariants as reply
+use Rattle.thrift_binary.specs.Codes as codes
+use Rattle.thrift_binary.specs.Codes.{i32_code, list_code, struct_code, text_code}
 use Rattle.thrift_binary.specs.declared.head.Head.{Head}
 use Rattle.thrift_binary.specs.Tree.{Wire, Number, Bytes, Struct, Fields, NoFields, Field}
 use Rattle.ms_calls.specs.declared.method.Method.{Method}
@@ -11,66 +13,69 @@ use Rattle.ms_calls.specs.Methods.{result_type}
 use Rattle.ms_calls.specs.Exceptions.{general_code, declared_id}
 use Rattle.ms_structs.specs.Written.{texts_tree, database_fields}
 
--- a result of this type
-abbrev pub IsResult : ResultType → Reply → Type 0
-IsResult of.NoField reply.Nothing = ⊤
-IsResult of.EmptyStruct reply.Nothing = ⊤
-IsResult of.OneText (reply.Names texts) = length texts ≡ 1
-IsResult of.TextList (reply.Names texts) = ⊤
-IsResult of.Int (reply.Number number) = ⊤
-IsResult of.Database (reply.Db name rec) = ⊤
-IsResult type reply = ⊥
+-- these fields, or none
+abbrev pub or_none : Option Fields → Fields
+or_none (Some fields) = fields
+or_none None = NoFields
 
--- a call can be answered a refusal whose exception it declares, one that every call may be answered, and its result
-abbrev pub CanReply : Option Method → Reply → Type 0
-CanReply method (reply.Refused number text) = IsSome (general_code number) ⊎ IsSome (declared_id method number)
-CanReply (Some method) result = IsResult (result_type method) result
-CanReply None result = ⊥
+-- one text, as it stands under field 0; any other number of texts is no result of one text
+abbrev pub one_text : List (List ℕ) → Option Fields
+one_text [] = None
+one_text (text ∷ []) = Some (Field text_code (pos 0) (Bytes text) NoFields)
+one_text (text ∷ more ∷ texts) = None
 
--- one text, as it stands under field 0
-abbrev pub one_text : List (List ℕ) → Fields
-one_text (text ∷ []) = Field 11 (pos 0) (Bytes text) NoFields
-one_text texts = NoFields
-
--- a result stands under field 0; where there is none, so does no field
-abbrev pub result_fields : ResultType → Reply → Fields
-result_fields of.EmptyStruct reply.Nothing = Field 12 (pos 0) (Struct NoFields) NoFields
+-- A result of this type stands under field 0; where there is none, so does no field. What is no result of the type has no fields to be sent as, so a result that is forgotten here can't be replied.
+abbrev pub result_fields : ResultType → Reply → Option Fields
+result_fields of.NoField reply.Nothing = Some NoFields
+result_fields of.EmptyStruct reply.Nothing = Some (Field struct_code (pos 0) (Struct NoFields) NoFields)
 result_fields of.OneText (reply.Names texts) = one_text texts
-result_fields of.TextList (reply.Names texts) = Field 15 (pos 0) (texts_tree texts) NoFields
-result_fields of.Int (reply.Number number) = Field 8 (pos 0) (Number number) NoFields
-result_fields of.Database (reply.Db name rec) = Field 12 (pos 0) (Struct (database_fields name rec)) NoFields
-result_fields type reply = NoFields
+result_fields of.TextList (reply.Names texts) = Some (Field list_code (pos 0) (texts_tree texts) NoFields)
+result_fields of.Int (reply.Number number) = Some (Field i32_code (pos 0) (Number number) NoFields)
+result_fields of.Database (reply.Db name rec) = Some (Field struct_code (pos 0) (Struct (database_fields name rec)) NoFields)
+result_fields type reply = None
 
 -- a TApplicationException: the text, and the code
 abbrev pub general_fields : List ℕ → ℤ → Fields
-general_fields text code = Field 11 (pos 1) (Bytes text) (Field 8 (pos 2) (Number code) NoFields)
+general_fields text code = Field text_code (pos 1) (Bytes text) (Field i32_code (pos 2) (Number code) NoFields)
 
 -- an exception that is declared: a struct with the text
 abbrev pub exception_tree : List ℕ → Wire
-exception_tree text = Struct (Field 11 (pos 1) (Bytes text) NoFields)
+exception_tree text = Struct (Field text_code (pos 1) (Bytes text) NoFields)
 
 abbrev pub declared_fields : List ℕ → ℤ → Fields
-declared_fields text id = Field 12 id (exception_tree text) NoFields
+declared_fields text id = Field struct_code id (exception_tree text) NoFields
 
-abbrev pub refused_as : List ℕ → Option ℤ → Option ℤ → Fields
-refused_as text (Some code) declared = general_fields text code
-refused_as text None (Some id) = declared_fields text id
-refused_as text None None = NoFields
+-- a refusal is sent as what every call may be answered, or as the exception that its call declares
+abbrev pub refused_as : List ℕ → Option ℤ → Option ℤ → Option Fields
+refused_as text (Some code) declared = Some (general_fields text code)
+refused_as text None (Some id) = Some (declared_fields text id)
+refused_as text None None = None
 
--- the fields of the struct that replies
+-- the fields of the struct that replies, where the call can have this reply: a refusal that every call may be answered, one whose exception the call declares, or the call's own result
+abbrev pub fields_of_reply : Option Method → Reply → Option Fields
+fields_of_reply method (reply.Refused number text) = refused_as text (general_code number) (declared_id method number)
+fields_of_reply (Some method) result = result_fields (result_type method) result
+fields_of_reply None result = None
+
+-- a call can have this reply
+abbrev pub CanReply : Option Method → Reply → Type 0
+CanReply method reply = IsSome (fields_of_reply method reply)
+
+-- the fields that a reply is sent as; one that a call can't have would have none
 abbrev pub reply_fields : Option Method → Reply → Fields
-reply_fields method (reply.Refused number text) = refused_as text (general_code number) (declared_id method number)
-reply_fields (Some method) result = result_fields (result_type method) result
-reply_fields None result = NoFields
+reply_fields method reply = or_none (fields_of_reply method reply)
 
--- 3 for what every call may be answered in place of its own reply, 2 for a reply
+-- the kind of what every call may be answered in place of its own reply, and that of a reply
 abbrev pub kind_of : Option ℤ → ℕ
-kind_of (Some code) = 3
-kind_of None = 2
+kind_of (Some code) = codes.exception_kind
+kind_of None = codes.reply_kind
 
 abbrev pub reply_kind : Reply → ℕ
 reply_kind (reply.Refused number text) = kind_of (general_code number)
-reply_kind result = 2
+reply_kind reply.Nothing = codes.reply_kind
+reply_kind (reply.Number number) = codes.reply_kind
+reply_kind (reply.Names texts) = codes.reply_kind
+reply_kind (reply.Db name rec) = codes.reply_kind
 
 -- a reply repeats the message's name and sequence id
 abbrev pub reply_head : Head → Reply → Head

@@ -1,11 +1,13 @@
 //! What messages ask.
 
-ghost use Rattle.std.specs.Prelude.{◌≡◌, ◌≤◌, [], ◌∷◌, None, Some, IfOk, IsErrOf, OnOk};
+ghost use Rattle.std.specs.Prelude.{◌≡◌, ◌≤◌, [], ◌∷◌, None, IfOk, IsErrOf, OnOk};
 ghost use Rattle.hms_outside.specs.Causes.{Rose, StaysBut};
-ghost use Rattle.ms_calls.specs.Asked.{IfClient, IfPlain, asked_by, asked_of, asked_plainly, method_of, server_name};
+ghost use Rattle.cat_types.specs.declared.replies.Reply.TheVariants.{Names};
+ghost use Rattle.ms_calls.specs.Asked.{CameAs, IfClient, IfPlain, asked_by, asked_of, server_name};
 ghost use Rattle.ms_calls.specs.Methods.{method_named};
 ghost use Rattle.ms_calls.specs.Replies.{CanReply};
 ghost use Rattle.ms_structs.specs.Getting.{Gets};
+ghost use Rattle.thrift_binary.specs.Codes.{struct_code};
 ghost use Rattle.thrift_binary.specs.Tree.{Struct};
 ghost use Rattle.thrift_binary.specs.Wire.{IsWire, StopsWire};
 
@@ -16,7 +18,7 @@ use cat_types::{Call, ListOf, NoMemory, Reply, Text, Texts};
 use hms_outside::Source;
 use ms_structs::skip_field;
 use std::alloc::Global;
-use thrift_binary::{Head, WireFault, WireReader};
+use thrift_binary::{Head, WireFault, WireReader, type_code};
 
 /// Reads the arguments of the message with this head, to the message's end, and says what it asks.
 /// A plain reply is one that the call can have, and a call of the catalogue came under its own name.
@@ -29,16 +31,17 @@ pub fn asked<S: Source>(
     ensures later { S.faults reader.old.source.now ≤ S.faults reader.new.source.now }
     ensures cause { reader.old.progress.fault ≡ None → IsErrOf result WireFault.ReadFault → Rose (S.faults reader.old.source.now) (S.faults reader.new.source.now) }
     ensures stays { StaysBut WireFault.ReadFault result (S.faults reader.old.source.now) (S.faults reader.new.source.now) }
-    ensures reads { Gets (S.left reader.old.source.now) (S.left reader.new.source.now) reader.old.progress reader.new.progress result (λ v. IsWire (Struct v) reader.old.progress.room 12) (λ v asked. asked ≡ asked_of head.now.name v) (StopsWire reader.old.progress.room 12) }
+    ensures reads { Gets (S.left reader.old.source.now) (S.left reader.new.source.now) reader.old.progress reader.new.progress result (λ v. IsWire (Struct v) reader.old.progress.room struct_code) (λ v asked. asked ≡ asked_of head.now.name v) (StopsWire reader.old.progress.room struct_code) }
     ensures unspent { OnOk result (reader.new.progress.fault ≡ None) }
     ensures plain { IfOk result (λ asked. IfPlain asked (CanReply (method_named head.now.name))) }
-    ensures client { IfOk result (λ asked. IfClient asked (λ call. method_named head.now.name ≡ Some (method_of call))) }
+    ensures client { IfOk result (λ asked. IfClient asked (CameAs (method_named head.now.name))) }
 {
     asked_by(alloc, method_named(head.name.as_str()), reader)
 }
 
-// Reads the arguments of a call.
-fn asked_by<S: Source>(
+/// Reads the arguments of a message with this method, or with a name that nobody knows, to the
+/// message's end, and says what it asks, as `asked` does.
+pub fn asked_by<S: Source>(
     alloc: Global,
     method: Option<Method>,
     reader: &mut WireReader<'_, S>,
@@ -47,46 +50,72 @@ fn asked_by<S: Source>(
     ensures later { S.faults reader.old.source.now ≤ S.faults reader.new.source.now }
     ensures cause { reader.old.progress.fault ≡ None → IsErrOf result WireFault.ReadFault → Rose (S.faults reader.old.source.now) (S.faults reader.new.source.now) }
     ensures stays { StaysBut WireFault.ReadFault result (S.faults reader.old.source.now) (S.faults reader.new.source.now) }
-    ensures reads { Gets (S.left reader.old.source.now) (S.left reader.new.source.now) reader.old.progress reader.new.progress result (λ v. IsWire (Struct v) reader.old.progress.room 12) (λ v asked. asked ≡ asked_by method v) (StopsWire reader.old.progress.room 12) }
+    ensures reads { Gets (S.left reader.old.source.now) (S.left reader.new.source.now) reader.old.progress reader.new.progress result (λ v. IsWire (Struct v) reader.old.progress.room struct_code) (λ v asked. asked ≡ asked_by method v) (StopsWire reader.old.progress.room struct_code) }
+    ensures unspent { OnOk result (reader.new.progress.fault ≡ None) }
+    ensures plain { IfOk result (λ asked. IfPlain asked (CanReply method)) }
+    ensures client { IfOk result (λ asked. IfClient asked (CameAs method)) }
+{
+    read_asked(alloc, method, reader)
+}
+
+// Reads the arguments of a call.
+fn read_asked<S: Source>(
+    alloc: Global,
+    method: Option<Method>,
+    reader: &mut WireReader<'_, S>,
+) -> Result<Asked, WireFault>
+    ensures same_source { reader.new.source.ghost_name ≡ reader.old.source.ghost_name }
+    ensures later { S.faults reader.old.source.now ≤ S.faults reader.new.source.now }
+    ensures cause { reader.old.progress.fault ≡ None → IsErrOf result WireFault.ReadFault → Rose (S.faults reader.old.source.now) (S.faults reader.new.source.now) }
+    ensures stays { StaysBut WireFault.ReadFault result (S.faults reader.old.source.now) (S.faults reader.new.source.now) }
+    ensures reads { Gets (S.left reader.old.source.now) (S.left reader.new.source.now) reader.old.progress reader.new.progress result (λ v. IsWire (Struct v) reader.old.progress.room struct_code) (λ v asked. asked ≡ asked_by method v) (StopsWire reader.old.progress.room struct_code) }
 {
     match method {
+        None => skip_arguments(reader, Asked::Unknown),
+        Some(Method::GetName) => ask_server_name(alloc, reader),
+        Some(Method::GetStatus) => skip_arguments(reader, Asked::Plain(Reply::Number(2))),
+        Some(Method::Shutdown) => skip_arguments(reader, Asked::Shutdown),
         Some(Method::SetUgi) => read_arguments::<UserArguments, S>(alloc, reader),
+        Some(Method::GetAllFunctions) => skip_arguments(reader, Asked::Plain(Reply::Nothing)),
         Some(Method::CreateDatabase) => read_arguments::<DatabaseArgument, S>(alloc, reader),
         Some(Method::GetDatabase) => read_arguments::<NameArgument, S>(alloc, reader),
-        method => skip_arguments(alloc, method, reader),
+        Some(Method::GetAllDatabases) => skip_arguments(
+            reader,
+            Asked::Client(Call::GetAllDatabases),
+        ),
     }
 }
 
-// Skips the argument struct of a call that has no arguments, or that nobody knows.
+// Skips the argument struct of a call that asks for this whatever its arguments are.
 fn skip_arguments<S: Source>(
+    reader: &mut WireReader<'_, S>,
+    asked: Asked,
+) -> Result<Asked, WireFault>
+    ensures same_source { reader.new.source.ghost_name ≡ reader.old.source.ghost_name }
+    ensures later { S.faults reader.old.source.now ≤ S.faults reader.new.source.now }
+    ensures cause { reader.old.progress.fault ≡ None → IsErrOf result WireFault.ReadFault → Rose (S.faults reader.old.source.now) (S.faults reader.new.source.now) }
+    ensures stays { StaysBut WireFault.ReadFault result (S.faults reader.old.source.now) (S.faults reader.new.source.now) }
+    ensures reads { Gets (S.left reader.old.source.now) (S.left reader.new.source.now) reader.old.progress reader.new.progress result (λ v. IsWire (Struct v) reader.old.progress.room struct_code) (λ _ it. it ≡ asked) (StopsWire reader.old.progress.room struct_code) }
+{
+    skip_field(reader, type_code::STRUCT)?;
+    Ok(asked)
+}
+
+// Skips the argument struct of the call that asks for the server's name.
+fn ask_server_name<S: Source>(
     alloc: Global,
-    method: Option<Method>,
     reader: &mut WireReader<'_, S>,
 ) -> Result<Asked, WireFault>
     ensures same_source { reader.new.source.ghost_name ≡ reader.old.source.ghost_name }
     ensures later { S.faults reader.old.source.now ≤ S.faults reader.new.source.now }
     ensures cause { reader.old.progress.fault ≡ None → IsErrOf result WireFault.ReadFault → Rose (S.faults reader.old.source.now) (S.faults reader.new.source.now) }
     ensures stays { StaysBut WireFault.ReadFault result (S.faults reader.old.source.now) (S.faults reader.new.source.now) }
-    ensures reads { Gets (S.left reader.old.source.now) (S.left reader.new.source.now) reader.old.progress reader.new.progress result (λ v. IsWire (Struct v) reader.old.progress.room 12) (λ _ asked. asked ≡ asked_plainly method) (StopsWire reader.old.progress.room 12) }
+    ensures reads { Gets (S.left reader.old.source.now) (S.left reader.new.source.now) reader.old.progress reader.new.progress result (λ v. IsWire (Struct v) reader.old.progress.room struct_code) (λ _ asked. asked ≡ Asked.Plain (Names (server_name ∷ []))) (StopsWire reader.old.progress.room struct_code) }
 {
-    skip_field(reader, 12)?;
-    match asked_plainly(alloc, method) {
-        Ok(asked) => Ok(asked),
+    skip_field(reader, type_code::STRUCT)?;
+    match server_name(alloc) {
+        Ok(names) => Ok(Asked::Plain(Reply::Names(names))),
         Err(NoMemory) => Err(reader.refused()),
-    }
-}
-
-// What a call without arguments asks.
-fn asked_plainly(alloc: Global, method: Option<Method>) -> Result<Asked, NoMemory>
-    ensures { IfOk result (λ asked. asked ≡ asked_plainly method) }
-{
-    match method {
-        Some(Method::GetName) => Ok(Asked::Plain(Reply::Names(server_name(alloc)?))),
-        Some(Method::GetStatus) => Ok(Asked::Plain(Reply::Number(2))),
-        Some(Method::Shutdown) => Ok(Asked::Shutdown),
-        Some(Method::GetAllFunctions) => Ok(Asked::Plain(Reply::Nothing)),
-        Some(Method::GetAllDatabases) => Ok(Asked::Client(Call::GetAllDatabases)),
-        _ => Ok(Asked::Unknown),
     }
 }
 

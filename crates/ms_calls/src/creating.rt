@@ -45,7 +45,7 @@ impl Arguments for DatabaseArgument {
     fn asked(self, _alloc: Global) -> Result<Asked, NoMemory> {
         match self.db {
             Got::Is(db) => Ok(Asked::Client(Call::CreateDatabase { db })),
-            _ => Ok(Asked::BadArgument(1)),
+            Got::Nothing | Got::BadText => Ok(Asked::BadArgument(1)),
         }
     }
 }

@@ -1,7 +1,7 @@
 //! The exceptions that calls declare.
 
 ghost use Rattle.std.specs.Prelude.{◌≡◌};
-ghost use Rattle.ms_calls.specs.Exceptions.{declared_id, exception_id, exception_of, general_code};
+ghost use Rattle.ms_calls.specs.Exceptions.{declared_id, exception_id, exception_of, exists_invalid_meta, general_code, meta_alone, missing_meta};
 
 use crate::Method;
 
@@ -16,15 +16,22 @@ pub enum Exception {
     Meta,
 }
 
-/// The code of a refusal that is told as a TApplicationException, which every call may be answered:
-/// 1 the method is unknown, 6 the server failed, 7 the call isn't spelled as it should be.
+// The codes of a TApplicationException: the method is unknown, the server failed, the message isn't
+// spelled as its call wants it.
+const UNKNOWN_METHOD: i32 = 1;
+
+const INTERNAL_ERROR: i32 = 6;
+
+const PROTOCOL_ERROR: i32 = 7;
+
+/// The code of a refusal that is told as a TApplicationException, which every call may be answered.
 pub fn general_code(number: u8) -> Option<i32>
     ensures { result ≡ general_code number }
 {
     match number {
-        9 => Some(1),
-        10 => Some(7),
-        11 => Some(6),
+        9 => Some(UNKNOWN_METHOD),
+        10 => Some(PROTOCOL_ERROR),
+        11 => Some(INTERNAL_ERROR),
         _ => None,
     }
 }
@@ -49,17 +56,54 @@ impl Method {
     pub fn exception_id(self, exception: Exception) -> Option<i16>
         ensures { result ≡ exception_id self exception }
     {
-        match (self, exception) {
-            (Method::SetUgi, Exception::Meta) => Some(1),
-            (Method::GetAllFunctions, Exception::Meta) => Some(1),
-            (Method::CreateDatabase, Exception::AlreadyExists) => Some(1),
-            (Method::CreateDatabase, Exception::InvalidObject) => Some(2),
-            (Method::CreateDatabase, Exception::Meta) => Some(3),
-            (Method::GetDatabase, Exception::NoSuchObject) => Some(1),
-            (Method::GetDatabase, Exception::Meta) => Some(2),
-            (Method::GetAllDatabases, Exception::Meta) => Some(1),
-            _ => None,
+        match self {
+            Method::GetName | Method::GetStatus | Method::Shutdown => None,
+            Method::SetUgi | Method::GetAllFunctions | Method::GetAllDatabases => {
+                meta_alone(exception)
+            }
+            Method::CreateDatabase => exists_invalid_meta(exception),
+            Method::GetDatabase => missing_meta(exception),
         }
+    }
+}
+
+// The ids of calls that declare a fault of the metastore alone.
+fn meta_alone(exception: Exception) -> Option<i16>
+    ensures { result ≡ meta_alone exception }
+{
+    match exception {
+        Exception::Meta => Some(1),
+        Exception::AlreadyExists
+        | Exception::NoSuchObject
+        | Exception::InvalidObject
+        | Exception::InvalidOperation
+        | Exception::InvalidInput => None,
+    }
+}
+
+// The ids of calls that make an object: it exists already, it is invalid, a fault of the metastore.
+fn exists_invalid_meta(exception: Exception) -> Option<i16>
+    ensures { result ≡ exists_invalid_meta exception }
+{
+    match exception {
+        Exception::AlreadyExists => Some(1),
+        Exception::InvalidObject => Some(2),
+        Exception::Meta => Some(3),
+        Exception::NoSuchObject | Exception::InvalidOperation | Exception::InvalidInput => None,
+    }
+}
+
+// The ids of calls that read an object: there is none such, a fault of the metastore.
+fn missing_meta(exception: Exception) -> Option<i16>
+    ensures { result ≡ missing_meta exception }
+{
+    match exception {
+        Exception::NoSuchObject => Some(1),
+        Exception::Meta => Some(2),
+        Exception::AlreadyExists
+        | Exception::InvalidObject
+        | Exception::InvalidOperation
+        | Exception::InvalidInput => None,
     }
 }
 

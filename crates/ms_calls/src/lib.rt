@@ -14,13 +14,13 @@ mod request;
 mod ugi;
 
 pub use arguments::{Arguments, read_arguments};
-pub use asking::asked;
+pub use asking::{asked, asked_by};
 pub use creating::DatabaseArgument;
 pub use exception::Exception;
 pub use laws::order_of_fields_is_free;
 pub use method::{Method, ResultType, method_named};
 pub use naming::NameArgument;
 pub use refusals::{bad_argument, out_of_memory, store_fault, unknown_method};
-pub use reply::{is_one_way, put_reply};
+pub use reply::{is_one_way, put_reply, put_reply_of};
 pub use request::Asked;
 pub use ugi::UserArguments;

@@ -45,7 +45,7 @@ impl Arguments for NameArgument {
     fn asked(self, _alloc: Global) -> Result<Asked, NoMemory> {
         match self.name {
             Got::Is(name) => Ok(Asked::Client(Call::GetDatabase { name })),
-            _ => Ok(Asked::BadArgument(1)),
+            Got::Nothing | Got::BadText => Ok(Asked::BadArgument(1)),
         }
     }
 }

@@ -1,22 +1,23 @@
 //! Replies to messages.
 
-ghost use Rattle.std.specs.Prelude.{◌≡◌, ◌==◌};
+ghost use Rattle.std.specs.Prelude.{◌≡◌, ◌==◌, IsSome};
+ghost use Rattle.thrift_binary.specs.Codes.{oneway_kind, struct_code};
 ghost use Rattle.thrift_binary.specs.Sending.{Gathers};
 ghost use Rattle.thrift_binary.specs.Strict.{fields_bytes, message_bytes, wire_bytes};
 ghost use Rattle.ms_calls.specs.Methods.{method_named};
-ghost use Rattle.ms_calls.specs.Replies.{CanReply, declared_fields, exception_tree, general_fields, one_text, refused_as, reply_fields, reply_head, reply_kind, result_fields};
+ghost use Rattle.ms_calls.specs.Replies.{CanReply, declared_fields, exception_tree, general_fields, one_text, or_none, refused_as, reply_fields, reply_head, reply_kind, result_fields};
 
 use crate::exception::{declared_id, general_code};
 use crate::{Method, ResultType, method_named};
 use cat_types::{NoMemory, Reply, Text, Texts};
 use ms_structs::{put_texts, write_database, write_get_all_functions_response};
-use thrift_binary::{Head, WireWriter};
+use thrift_binary::{Head, WireWriter, message_kind, type_code};
 
 /// Whether the sender of a message wants no reply.
 pub fn is_one_way(head: &Head) -> bool
-    ensures { result ≡ (head.now.kind == 4) }
+    ensures { result ≡ (head.now.kind == oneway_kind) }
 {
-    head.kind == 4
+    head.kind == message_kind::ONEWAY
 }
 
 /// Gathers the reply to the message with this head, in the strict spelling of Thrift's binary
@@ -26,8 +27,22 @@ pub fn put_reply(writer: &mut WireWriter, head: &Head, reply: &Reply) -> Result<
     requires { CanReply (method_named head.now.name) reply.now }
     ensures { Gathers writer.old writer.new result (message_bytes (reply_head head.now reply.now) (reply_fields (method_named head.now.name) reply.now)) }
 {
+    put_reply_of(writer, head, method_named(head.name.as_str()), reply)
+}
+
+/// Gathers the reply to the message with this head, as a call with this method declares it, or as
+/// one that nobody knows.
+pub fn put_reply_of(
+    writer: &mut WireWriter,
+    head: &Head,
+    method: Option<Method>,
+    reply: &Reply,
+) -> Result<(), NoMemory>
+    requires { CanReply method reply.now }
+    ensures { Gathers writer.old writer.new result (message_bytes (reply_head head.now reply.now) (reply_fields method reply.now)) }
+{
     writer.reply_head(head, reply_kind(reply))?;
-    put_fields(writer, method_named(head.name.as_str()), reply)?;
+    put_fields(writer, method, reply)?;
     writer.stop()
 }
 
@@ -37,10 +52,11 @@ fn reply_kind(reply: &Reply) -> u8
 {
     match reply {
         Reply::Refused(number, _) => match general_code(*number) {
-            Some(_) => 3,
-            None => 2,
+            Some(_) => message_kind::EXCEPTION,
+            None => message_kind::REPLY,
         },
-        _ => 2,
+        Reply::Nothing | Reply::Number(_) | Reply::Names(_) | Reply::Db(_, _) =>
+            message_kind::REPLY,
     }
 }
 
@@ -50,6 +66,7 @@ fn put_fields(
     method: Option<Method>,
     reply: &Reply,
 ) -> Result<(), NoMemory>
+    requires { CanReply method reply.now }
     ensures { Gathers writer.old writer.new result (fields_bytes (reply_fields method reply.now)) }
 {
     match (method, reply) {
@@ -60,7 +77,7 @@ fn put_fields(
             declared_id(method, *number),
         ),
         (Some(method), result) => put_result(writer, method.result_type(), result),
-        (None, _) => Ok(()),
+        (None, _) => unreachable!(),
     }
 }
 
@@ -70,38 +87,41 @@ fn put_result(
     result_type: ResultType,
     reply: &Reply,
 ) -> Result<(), NoMemory>
-    ensures { Gathers writer.old writer.new result (fields_bytes (result_fields result_type reply.now)) }
+    requires { IsSome (result_fields result_type reply.now) }
+    ensures { Gathers writer.old writer.new result (fields_bytes (or_none (result_fields result_type reply.now))) }
 {
     match (result_type, reply) {
+        (ResultType::NoField, Reply::Nothing) => Ok(()),
         (ResultType::EmptyStruct, Reply::Nothing) => {
-            writer.field(12, 0)?;
+            writer.field(type_code::STRUCT, 0)?;
             write_get_all_functions_response(writer)
         }
         (ResultType::OneText, Reply::Names(texts)) => put_one_text(writer, texts),
         (ResultType::TextList, Reply::Names(texts)) => {
-            writer.field(15, 0)?;
+            writer.field(type_code::LIST, 0)?;
             put_texts(writer, texts.as_slice())
         }
         (ResultType::Int, Reply::Number(number)) => {
-            writer.field(8, 0)?;
+            writer.field(type_code::I32, 0)?;
             writer.int(*number)
         }
         (ResultType::Database, Reply::Db(name, rec)) => {
-            writer.field(12, 0)?;
+            writer.field(type_code::STRUCT, 0)?;
             write_database(writer, name, rec)
         }
-        _ => Ok(()),
+        _ => unreachable!(),
     }
 }
 
 // The one text of a list, under field 0.
 fn put_one_text(writer: &mut WireWriter, texts: &Texts) -> Result<(), NoMemory>
-    ensures { Gathers writer.old writer.new result (fields_bytes (one_text texts.now)) }
+    requires { IsSome (one_text texts.now) }
+    ensures { Gathers writer.old writer.new result (fields_bytes (or_none (one_text texts.now))) }
 {
     let [text] = texts.as_slice() else {
-        return Ok(());
+        unreachable!()
     };
-    writer.field(11, 0)?;
+    writer.field(type_code::STRING, 0)?;
     writer.text(text)
 }
 
@@ -112,12 +132,13 @@ fn put_refused(
     code: Option<i32>,
     id: Option<i16>,
 ) -> Result<(), NoMemory>
-    ensures { Gathers writer.old writer.new result (fields_bytes (refused_as text.now code id)) }
+    requires { IsSome (refused_as text.now code id) }
+    ensures { Gathers writer.old writer.new result (fields_bytes (or_none (refused_as text.now code id))) }
 {
     match (code, id) {
         (Some(code), _) => put_general(writer, text, code),
         (None, Some(id)) => put_declared(writer, text, id),
-        (None, None) => Ok(()),
+        (None, None) => unreachable!(),
     }
 }
 
@@ -125,9 +146,9 @@ fn put_refused(
 fn put_general(writer: &mut WireWriter, text: &Text, code: i32) -> Result<(), NoMemory>
     ensures { Gathers writer.old writer.new result (fields_bytes (general_fields text.now code)) }
 {
-    writer.field(11, 1)?;
+    writer.field(type_code::STRING, 1)?;
     writer.text(text)?;
-    writer.field(8, 2)?;
+    writer.field(type_code::I32, 2)?;
     writer.int(code)
 }
 
@@ -135,15 +156,15 @@ fn put_general(writer: &mut WireWriter, text: &Text, code: i32) -> Result<(), No
 fn put_declared(writer: &mut WireWriter, text: &Text, id: i16) -> Result<(), NoMemory>
     ensures { Gathers writer.old writer.new result (fields_bytes (declared_fields text.now id)) }
 {
-    writer.field(12, id)?;
+    writer.field(type_code::STRUCT, id)?;
     put_exception(writer, text)
 }
 
 // The struct of an exception with this text.
 fn put_exception(writer: &mut WireWriter, text: &Text) -> Result<(), NoMemory>
-    ensures { Gathers writer.old writer.new result (wire_bytes 12 (exception_tree text.now)) }
+    ensures { Gathers writer.old writer.new result (wire_bytes struct_code (exception_tree text.now)) }
 {
-    writer.field(11, 1)?;
+    writer.field(type_code::STRING, 1)?;
     writer.text(text)?;
     writer.stop()
 }

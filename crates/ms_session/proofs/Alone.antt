@@ -21,16 +21,17 @@ use Rattle.ms_calls.specs.declared.request.Asked.TheVariants as ask
 use Rattle.ms_calls.specs.Refusals.{out_of_memory}
 use Rattle.ms_session.specs.Laws.{AloneListsDefault, Lists, MakesNone}
 use Rattle.ms_session.specs.Requests.{asks}
-use Rattle.ms_session.specs.Turns.{Due, IsTurn, Turn, reply_to}
+use Rattle.ms_session.specs.Turns.{Due, IsReplyTo, IsTurn, Turn}
+use Rattle.ms_session.proofs.Results.{reply_in}
 
 abbrev names : List (List ℕ)
 names = codes "default" ∷ []
 
 -- a listing is answered by the names, or by want of memory
-listed : (p : Place) (caller moment fault : ℕ) (a : Answer) → p.state.catalogue ≡ new_catalogue → MayAnswer p caller (step.Client GetAllDatabases moment) a fault → (reply_to a ≡ Names names) ⊎ (reply_to a ≡ out_of_memory)
-listed p caller moment fault answer.NoMemory new may = inr refl
-listed p caller moment fault answer.StoreFault new may = absurd (false≢true may.0)
-listed p caller moment fault (answer.Reply r) new may = inl (ap reply_to may ∙ ap (λ (cat : Catalogue). Names (keys_of cat.databases)) new)
+listed : (p : Place) (caller moment fault : ℕ) (a : Answer) → p.state.catalogue ≡ new_catalogue → MayAnswer p caller (step.Client GetAllDatabases moment) a fault → (due : Reply) → IsReplyTo a due → (due ≡ Names names) ⊎ (due ≡ out_of_memory)
+listed p caller moment fault answer.NoMemory new may due is = inr is
+listed p caller moment fault answer.StoreFault new may due is = absurd (false≢true may.0)
+listed p caller moment fault (answer.Reply r) new may due is = inl (is ∙ ap reply_in may ∙ ap (λ (cat : Catalogue). Names (keys_of cat.databases)) new)
 
 -- a call that makes no database leaves the state
 found_leaves : (there : Bool) (r : Reply) (state : State) (moment : ℕ) → (due_by (decided_as (cond there None (Some 2)) None r) state moment).state ≡ state
@@ -52,7 +53,7 @@ stays_new p e call moment new is none =
     ap (λ (s : Step). (cond (is_refused e.1.answer) p.state (due p.state e.0.caller s).state).catalogue) is ∙ ap (λ (s : State). s.catalogue) (left_as_it_was p e.0.caller call moment e.1.answer none) ∙ new
 
 -- one entry that lists
-one_listing : (p : Place) (e : Entry) (moment : ℕ) → p.state.catalogue ≡ new_catalogue → e.0.step ≡ step.Client GetAllDatabases moment → MayFollow p (took e) → (reply_to e.1.answer ≡ Names names) ⊎ (reply_to e.1.answer ≡ out_of_memory)
+one_listing : (p : Place) (e : Entry) (moment : ℕ) → p.state.catalogue ≡ new_catalogue → e.0.step ≡ step.Client GetAllDatabases moment → MayFollow p (took e) → (due : Reply) → IsReplyTo e.1.answer due → (due ≡ Names names) ⊎ (due ≡ out_of_memory)
 one_listing p e moment new is may = listed p e.0.caller moment e.1.fault e.1.answer new (subst (λ (s : Step). MayAnswer p e.0.caller s e.1.answer e.1.fault) is may.1)
 
 -- what is sent in place of what is due is want of memory
@@ -79,8 +80,8 @@ one_message : (p : Place) (asked : Asked) (entries more : List Entry) (due reply
     → Lists names asked reply × Behind more
 one_message p (ask.Client GetAllDatabases) entries more due reply new none legal d which =
     let all : IsLegal p (map took ((d.0 ∷ []) ++ more)) = subst (λ (es : List Entry). IsLegal p (map took (es ++ more))) d.2 legal in
-    let one = one_listing p d.0 d.1 new d.3 all.0 in
-    (instead due reply (Names names) (subst (λ (r : Reply). (r ≡ Names names) ⊎ (r ≡ out_of_memory)) (sym d.4) one) which, one_call p GetAllDatabases entries more due reply new tt legal d)
+    let one = one_listing p d.0 d.1 new d.3 all.0 due d.4 in
+    (instead due reply (Names names) one which, one_call p GetAllDatabases entries more due reply new tt legal d)
 one_message p (ask.Client (GetDatabase name)) entries more due reply new none legal d which = (tt, one_call p (GetDatabase name) entries more due reply new tt legal d)
 one_message p (ask.Client (CreateDatabase db)) entries more due reply new none legal d which = absurd none
 one_message p (ask.Plain r) entries more due reply new none legal d which = (tt, no_call p entries more new legal d.0)

@@ -14,8 +14,9 @@ use Rattle.ms_calls.specs.Refusals.{out_of_memory}
 use Rattle.ms_calls.specs.declared.request.Asked.{Asked}
 use Rattle.ms_calls.specs.declared.request.Asked.TheVariants.{Client}
 use Rattle.ms_session.specs.Replies.{reply_bytes}
-use Rattle.ms_session.specs.Turns.{Answers, AnswersBy, Begins, Did, Due, GrewPart, Replies, Timed, moments_of, reply_to}
+use Rattle.ms_session.specs.Turns.{Answers, AnswersBy, Begins, Did, Due, GrewPart, Replies, IsReplyTo, Timed, moments_of}
 use Rattle.ms_session.specs.declared.request.Request.{Request}
+use Rattle.ms_session.proofs.Results.{is_reply, only_replies, reply_in}
 use Rattle.ms_session.proofs.Turns.{is_wanted, no_reply, reply_sent}
 
 same_clock : (a : Option (List ℕ)) → Goes Same a a
@@ -25,10 +26,10 @@ same_clock (Some x) = refl
 -- a call took its one step at the clock's next moment
 pub called : {E : Type 0} (alone : Bool) (me : ℕ) (old new between : List Entry) (e : Entry) (call : Call) (moment : ℕ) (clock clock' : Option (List ℕ)) (result : Result Reply E)
     → e.0.caller ≡ me → e.0.step ≡ step.Client call moment → Others me between → new ≡ (old ++ between) ++ e ∷ [] → (IsTrue alone → new ≡ old ++ e ∷ [])
-    → Ticks clock clock' moment → IfOk result (λ reply. reply ≡ reply_to e.1.answer) → Adds alone me old new (Did (Client call) clock clock' result)
+    → Ticks clock clock' moment → IfOk result (IsReplyTo e.1.answer) → Adds alone me old new (Did (Client call) clock clock' result)
 called alone me old new between e call moment clock clock' result mine is others grew sole ticks replied =
     adds_one alone me old new between e (Did (Client call) clock clock' result) mine others grew sole
-    (reply_to e.1.answer, (e, moment, refl, is, refl), rw is (clock', ticks, same_clock clock'), replied)
+    (reply_in e.1.answer, (e, moment, refl, is, is_reply e.1.answer), rw is (clock', ticks, same_clock clock'), only_replies e.1.answer result replied)
 
 -- nothing else is a step
 pub not_called : {E : Type 0} (alone : Bool) (me : ℕ) (es : List Entry) (clock : Option (List ℕ)) (asked : Asked) (due : Reply) (result : Result Reply E) → Due asked [] due → IfOk result (λ reply. reply ≡ due) → Adds alone me es es (Did asked clock clock result)

@@ -1,5 +1,6 @@
 -- What a store answers to a call is a reply that the call can have.
-use Rattle.std.proofs.Common.{◌≡◌, ℕ, Bool, true, false, List, [], ◌∷◌, ◌++◌, map, Option, Some, None, is_some, IsSome, IfOk, Result, Ok, Err, refl, sym, ap, subst, inl, inr}
+use Rattle.std.proofs.Common.{◌≡◌, ℕ, Bool, true, false, List, [], ◌∷◌, ◌++◌, map, Option, Some, None, is_some, IsSome, IfOk, Result, Ok, Err, ℤ, refl, sym, ap, subst}
+use Rattle.std.proofs.lemmas.Bool.{false≢true}
 use Rattle.std.specs.Prelude.{◌+◌, cond, length, nat_le, nat_lt, not}
 use Rattle.cat_types.specs.declared.calls.Call.{Call}
 use Rattle.cat_types.specs.declared.calls.Call.TheVariants.{CreateDatabase, GetAllDatabases, GetDatabase}
@@ -18,41 +19,69 @@ use Rattle.desk.specs.History.{Entry, IsLegal, Legal, MayAnswer, MayFollow, Plac
 use Rattle.desk.specs.State.{State, bars, due_by}
 use Rattle.ms_calls.specs.declared.method.Method.{Method}
 use Rattle.ms_calls.specs.declared.method.Method.TheVariants as method
-use Rattle.ms_calls.specs.Asked.{method_of}
-use Rattle.ms_calls.specs.Exceptions.{general_code}
-use Rattle.ms_calls.specs.Replies.{CanReply}
-use Rattle.ms_session.specs.Turns.{reply_to}
+use Rattle.ms_calls.specs.Asked.{CameAs, IsMethodOf}
+use Rattle.ms_calls.specs.Exceptions.{declared_id, general_code}
+use Rattle.ms_calls.specs.Refusals.{out_of_memory, store_fault}
+use Rattle.ms_calls.specs.Replies.{CanReply, refused_as}
+use Rattle.ms_session.specs.Turns.{IsReplyTo}
 
 -- ---- results of calls
 
+-- the one reply that an answer makes
+abbrev pub reply_in : Answer → Reply
+reply_in (answer.Reply told) = told
+reply_in answer.StoreFault = store_fault
+reply_in answer.NoMemory = out_of_memory
+
+pub is_reply : (a : Answer) → IsReplyTo a (reply_in a)
+is_reply (answer.Reply told) = refl
+is_reply answer.StoreFault = refl
+is_reply answer.NoMemory = refl
+
+pub only_reply : (a : Answer) (reply : Reply) → IsReplyTo a reply → reply ≡ reply_in a
+only_reply (answer.Reply told) reply is = is
+only_reply answer.StoreFault reply is = is
+only_reply answer.NoMemory reply is = is
+
+pub only_replies : {E : Type 0} (a : Answer) (result : Result Reply E) → IfOk result (IsReplyTo a) → IfOk result (λ reply. reply ≡ reply_in a)
+only_replies a (Ok reply) is = only_reply a reply is
+only_replies a (Err e) is = tt
+
 -- a reply that is another, which the call can have
 same_can : (m : Method) (r s : Reply) → answer.Reply r ≡ answer.Reply s → CanReply (Some m) s → CanReply (Some m) r
-same_can m r s is can = subst (CanReply (Some m)) (sym (ap reply_to is)) can
+same_can m r s is can = subst (CanReply (Some m)) (sym (ap reply_in is)) can
 
 got : {R : Type 0} (held : Option R) (shown : Option R → Reply) (state : State) (moment : ℕ) (r : Reply) → ((found : R) → CanReply (Some method.GetDatabase) (shown (Some found)))
     → answer.Reply r ≡ (due_by (decided_as (cond (is_some held) None (Some 2)) None (shown held)) state moment).answer → CanReply (Some method.GetDatabase) r
-got None shown state moment r can is = same_can method.GetDatabase r _ is (inr refl)
+got None shown state moment r can is = same_can method.GetDatabase r _ is refl
 got (Some found) shown state moment r can is = same_can method.GetDatabase r _ is (can found)
 
 made : (unnamed there full out : Bool) (change : Change) (state : State) (moment : ℕ) (r : Reply)
     → answer.Reply r ≡ (due_by (decided_as (cond unnamed (Some 3) (cond there (Some 1) (cond full (Some 3) (cond out (Some 12) None)))) (Some change) Nothing) state moment).answer → CanReply (Some method.CreateDatabase) r
-made true there full out change state moment r is = same_can method.CreateDatabase r _ is (inr refl)
-made false true full out change state moment r is = same_can method.CreateDatabase r _ is (inr refl)
-made false false true out change state moment r is = same_can method.CreateDatabase r _ is (inr refl)
-made false false false true change state moment r is = same_can method.CreateDatabase r _ is (inr refl)
-made false false false false change state moment r is = same_can method.CreateDatabase r _ is tt
+made true there full out change state moment r is = same_can method.CreateDatabase r _ is refl
+made false true full out change state moment r is = same_can method.CreateDatabase r _ is refl
+made false false true out change state moment r is = same_can method.CreateDatabase r _ is refl
+made false false false true change state moment r is = same_can method.CreateDatabase r _ is refl
+made false false false false change state moment r is = same_can method.CreateDatabase r _ is refl
 
-can_answer : (p : Place) (caller : ℕ) (call : Call) (moment : ℕ) (a : Answer) (fault : ℕ) → MayAnswer p caller (step.Client call moment) a fault → CanReply (Some (method_of call)) (reply_to a)
-can_answer p caller call moment answer.NoMemory fault may = inl refl
-can_answer p caller GetAllDatabases moment answer.StoreFault fault may = inr refl
-can_answer p caller (GetDatabase name) moment answer.StoreFault fault may = inr refl
-can_answer p caller (CreateDatabase db) moment answer.StoreFault fault may = inr refl
-can_answer p caller GetAllDatabases moment (answer.Reply r) fault may = same_can method.GetAllDatabases r _ may tt
-can_answer p caller (GetDatabase name) moment (answer.Reply r) fault may = got (database p.state.catalogue (lower name)) (λ held. shown_as held bars.replicas (lower name)) p.state moment r (λ found. tt) may
-can_answer p caller (CreateDatabase db) moment (answer.Reply r) fault may =
+-- what a call is answered under the one name that it has
+by_call : (p : Place) (caller : ℕ) (call : Call) (moment : ℕ) (a : Answer) (fault : ℕ) (m : Method) → IsMethodOf call m → MayAnswer p caller (step.Client call moment) a fault → CanReply (Some m) (reply_in a)
+by_call p caller call moment answer.NoMemory fault m is may = refl
+by_call p caller GetAllDatabases moment answer.StoreFault fault m is may = subst (λ (n : Method). CanReply (Some n) store_fault) (sym is) refl
+by_call p caller (GetDatabase name) moment answer.StoreFault fault m is may = subst (λ (n : Method). CanReply (Some n) store_fault) (sym is) refl
+by_call p caller (CreateDatabase db) moment answer.StoreFault fault m is may = subst (λ (n : Method). CanReply (Some n) store_fault) (sym is) refl
+by_call p caller GetAllDatabases moment (answer.Reply r) fault m is may = subst (λ (n : Method). CanReply (Some n) r) (sym is) (same_can method.GetAllDatabases r _ may refl)
+by_call p caller (GetDatabase name) moment (answer.Reply r) fault m is may =
+    subst (λ (n : Method). CanReply (Some n) r) (sym is) (got (database p.state.catalogue (lower name)) (λ held. shown_as held bars.replicas (lower name)) p.state moment r (λ found. refl) may)
+by_call p caller (CreateDatabase db) moment (answer.Reply r) fault m is may =
     let next = p.state.newest + 1 in
-    made (not (is_named db.name)) (has_database p.state.catalogue (kept_name db.name)) (nat_le 1000000 (length p.state.catalogue.databases)) (nat_lt 9223372036854775807 next)
-    (record { kind = kind.CreateDatabase; db = kept_name db.name; db_born = next; ops = PutDb (kept_record db.rec) ∷ [] }) p.state moment r may
+    subst (λ (n : Method). CanReply (Some n) r) (sym is)
+    (made (not (is_named db.name)) (has_database p.state.catalogue (kept_name db.name)) (nat_le 1000000 (length p.state.catalogue.databases)) (nat_lt 9223372036854775807 next)
+    (record { kind = kind.CreateDatabase; db = kept_name db.name; db_born = next; ops = PutDb (kept_record db.rec) ∷ [] }) p.state moment r may)
+
+can_answer : (p : Place) (caller : ℕ) (call : Call) (moment : ℕ) (a : Answer) (fault : ℕ) (m : Option Method) → CameAs m call → MayAnswer p caller (step.Client call moment) a fault → CanReply m (reply_in a)
+can_answer p caller call moment a fault None came may = absurd came
+can_answer p caller call moment a fault (Some m) came may = by_call p caller call moment a fault m came may
 
 -- ---- the last answer of a legal history
 
@@ -60,16 +89,20 @@ last_may : (p : Place) (es : List Entry) (e : Entry) → IsLegal p (map took (es
 last_may p [] e legal = (p, legal.0)
 last_may p (x ∷ xs) e legal = last_may (next p (took x)) xs e legal.1
 
--- what a desk answered to a call
+-- what a desk answered to a call, under whatever name it came
 pub can_call : {E : Type 0} (s : Start) (old between new : List Entry) (e : Entry) (call : Call) (moment : ℕ) (result : Result Reply E)
-    → e.0.step ≡ step.Client call moment → new ≡ (old ++ between) ++ e ∷ [] → Legal s new → IfOk result (λ reply. reply ≡ reply_to e.1.answer) → IfOk result (CanReply (Some (method_of call)))
-can_call s old between new e call moment (Err x) is grew legal replied = tt
-can_call s old between new e call moment (Ok reply) is grew legal replied =
+    → e.0.step ≡ step.Client call moment → new ≡ (old ++ between) ++ e ∷ [] → Legal s new → IfOk result (IsReplyTo e.1.answer) → (m : Option Method) → CameAs m call → IfOk result (CanReply m)
+can_call s old between new e call moment (Err x) is grew legal replied m came = tt
+can_call s old between new e call moment (Ok reply) is grew legal replied m came =
     let last = last_may (place_of s) (old ++ between) e (subst (λ (es : List Entry). Legal s es) grew legal) in
     let may = subst (λ (t : Step). MayAnswer last.0 e.0.caller t e.1.answer e.1.fault) is last.1.1 in
-    subst (CanReply (Some (method_of call))) (sym replied) (can_answer last.0 e.0.caller call moment e.1.answer e.1.fault may)
+    subst (CanReply m) (sym (only_reply e.1.answer reply replied)) (can_answer last.0 e.0.caller call moment e.1.answer e.1.fault m came may)
 
 -- a refusal that every call may be answered
+told_to_all : (code declared : Option ℤ) (text : List ℕ) → IsSome code → IsSome (refused_as text code declared)
+told_to_all None declared text general = absurd (false≢true general)
+told_to_all (Some code) declared text general = refl
+
 pub can_refuse : {E : Type 0} (m : Option Method) (number : ℕ) (text : List ℕ) (result : Result Reply E) → IsSome (general_code number) → IfOk result (λ reply. reply ≡ Refused number text) → IfOk result (CanReply m)
 can_refuse m number text (Err e) general is = tt
-can_refuse m number text (Ok reply) general is = subst (CanReply m) (sym is) (inl general)
+can_refuse m number text (Ok reply) general is = subst (CanReply m) (sym is) (told_to_all (general_code number) (declared_id m number) text general)

@@ -39,7 +39,7 @@ Next said bytes = (w : Option Message) × IsNext w bytes × SaysRequest w said
 
 a_request : (request : Request) (bytes : List ℕ) (w : Option Message) → IsNext w bytes → SaysRequest w (Some request) → Came request bytes
 a_request request bytes None is says = absurd says
-a_request request bytes (Some m) is says = record { message = m; spelled = is; head = says.0; asked = says.1 }
+a_request request bytes (Some m) is says = record { message = m; spelled = is; head = says.0; asked = says.2 }
 
 pub came : (a b : Option (List ℕ)) (p q : Progress) (request : Request) → Took a b p q (Next (Some request)) → Took a b p q (Came request)
 came a b p q request took = Took-weaker a b p q (Next (Some request)) (Came request) (λ bytes h. a_request request bytes h.0 h.1 h.2) took

@@ -13,7 +13,7 @@ use Rattle.thrift_binary.specs.Messages.{Message, Asks, IsMessage, AreMessages}
 use Rattle.thrift_binary.specs.Taking.{room_at}
 use Rattle.thrift_binary.proofs.OneText.{one_more}
 use Rattle.ms_session.specs.Replies.{reply_bytes, sent_for}
-use Rattle.ms_session.specs.Turns.{Carried, IsTurn, Replied, Replies, Timed, Turn, ends_of, moment_of, moments_of, replies_of}
+use Rattle.ms_session.specs.Turns.{Carried, IsTurn, Replied, Replies, Timed, Turn, ends_of, moments_in, moments_of, replies_of}
 
 -- ---- moments
 
@@ -53,7 +53,7 @@ carried_more turns turn front rest a b c xs ys so_far message within is own time
   spelled = spells_more turns turn front rest so_far.spelled message within;
   each = each_more turns turn so_far.each is;
   own = ap (λ (es : List Entry). es ++ ys) so_far.own ∙ ap (λ (es : List Entry). flat_map (λ t. t.entries) turns ++ es) (sym own) ∙ sym (own_more turns turn);
-  moments = subst (λ (ms : List ℕ). Timed ms a c) (sym (map-append (λ e. moment_of e.0.step) xs ys)) (timed-append (moments_of xs) (moments_of ys) a b c so_far.moments timed);
+  moments = subst (λ (ms : List ℕ). Timed ms a c) (sym (flat_map-append (λ e. moments_in e.0.step) xs ys)) (timed-append (moments_of xs) (moments_of ys) a b c so_far.moments timed);
 }
 
 -- ---- replies

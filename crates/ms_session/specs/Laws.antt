@@ -2,7 +2,7 @@
 use Rattle.std.specs.Prelude.{◌≡◌, ⊤, ℕ, ◌⊎◌, List, [], ◌∷◌, ◌++◌, codes, map, Option, Some}
 use Rattle.std.specs.List.{AllByRecursion}
 use Rattle.hms_outside.specs.Told.{Goes}
-use Rattle.cat_types.specs.declared.calls.Call.TheVariants.{CreateDatabase, GetAllDatabases}
+use Rattle.cat_types.specs.declared.calls.Call.TheVariants.{CreateDatabase, GetAllDatabases, GetDatabase}
 use Rattle.cat_types.specs.declared.replies.Reply.{Reply}
 use Rattle.cat_types.specs.declared.replies.Reply.TheVariants.{Names}
 use Rattle.desk.specs.History.{Entry, Legal}
@@ -15,7 +15,7 @@ use Rattle.ms_session.specs.Requests.{asks}
 use Rattle.ms_session.specs.Session.{Met, Session}
 use Rattle.ms_session.specs.Turns.{Carried, Replied, Turn, replies_of}
 use Rattle.ms_session.specs.declared.end.End.{End}
-use Rattle.ms_session.specs.declared.end.End.TheVariants.{Done, Shutdown, Truncated, BadWire, TooLarge}
+use Rattle.ms_session.specs.declared.end.End.TheVariants.{Done, Shutdown, Truncated, BadWire, TooLarge, ReadFault, WriteFault, NoMemory}
 
 -- ---- every whole message is answered
 
@@ -35,7 +35,9 @@ EndsWith old new entries messages ending (BadWire code place) = AllAnswered old 
 EndsWith old new entries messages ending (TooLarge place) = AllAnswered old new entries messages × (ending ≡ Large_at place)
 EndsWith old new entries messages ending Shutdown =
     (before : List Message) × (last : Message) × (more : List Message) × (messages ≡ before ++ last ∷ more) × (asks last ≡ ask.Shutdown) × AllAnswered old new entries before
-EndsWith old new entries messages ending end = ⊤
+EndsWith old new entries messages ending ReadFault = ⊤
+EndsWith old new entries messages ending WriteFault = ⊤
+EndsWith old new entries messages ending NoMemory = ⊤
 
 abbrev pub WholeTextsAreServed : Type 0
 WholeTextsAreServed =
@@ -47,12 +49,22 @@ WholeTextsAreServed =
 -- a message that asks for no new database
 abbrev pub MakesNone : Asked → Type 0
 MakesNone (ask.Client (CreateDatabase db)) = ⊥
-MakesNone asked = ⊤
+MakesNone (ask.Client (GetDatabase name)) = ⊤
+MakesNone (ask.Client GetAllDatabases) = ⊤
+MakesNone (ask.Plain reply) = ⊤
+MakesNone ask.Unknown = ⊤
+MakesNone (ask.BadArgument id) = ⊤
+MakesNone ask.Shutdown = ⊤
 
 -- a message that lists the databases was answered these names, or want of memory
 abbrev pub Lists : List (List ℕ) → Asked → Reply → Type 0
 Lists names (ask.Client GetAllDatabases) reply = (reply ≡ Names names) ⊎ (reply ≡ out_of_memory)
-Lists names asked reply = ⊤
+Lists names (ask.Client (GetDatabase name)) reply = ⊤
+Lists names (ask.Client (CreateDatabase db)) reply = ⊤
+Lists names (ask.Plain answer) reply = ⊤
+Lists names ask.Unknown reply = ⊤
+Lists names (ask.BadArgument id) reply = ⊤
+Lists names ask.Shutdown reply = ⊤
 
 -- where the messages of one caller are all that a new store went through, and none asks for a new database, each listing names `default` alone
 abbrev pub AloneListsDefault : Type 0

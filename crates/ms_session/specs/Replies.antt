@@ -1,6 +1,7 @@
 -- The bytes of a reply to a message.
 use Rattle.std.specs.Prelude.{◌==◌, ℕ, List, [], ◌∷◌, if◌then◌else◌}
 use Rattle.cat_types.specs.declared.replies.Reply.{Reply}
+use Rattle.thrift_binary.specs.Codes.{oneway_kind}
 use Rattle.thrift_binary.specs.declared.head.Head.{Head}
 use Rattle.thrift_binary.specs.Strict.{message_bytes}
 use Rattle.ms_calls.specs.Methods.{method_named}
@@ -12,4 +13,4 @@ reply_bytes head reply = message_bytes (reply_head head reply) (reply_fields (me
 
 -- what is sent for a reply: its bytes, and nothing to a message that wants no reply
 abbrev pub sent_for : Head → Reply → List (List ℕ)
-sent_for head reply = if head.kind == 4 then [] else reply_bytes head reply ∷ []
+sent_for head reply = if head.kind == oneway_kind then [] else reply_bytes head reply ∷ []

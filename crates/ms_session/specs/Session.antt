@@ -5,6 +5,7 @@ use Rattle.hms_outside.specs.Told.{Goes, Held}
 use Rattle.desk.specs.History.{Entry}
 use Rattle.thrift_binary.specs.declared.fault.WireFault.{WireFault}
 use Rattle.thrift_binary.specs.declared.fault.WireFault.TheVariants as fault
+use Rattle.thrift_binary.specs.Codes.{oneway_kind}
 use Rattle.thrift_binary.specs.Messages.{Message, Asks, IsMessage, StopsMessage, Ends, Truncated as TruncatedAt}
 use Rattle.thrift_binary.specs.Taking.{Stop, Cut, Bad, Large, room_at}
 use Rattle.ms_calls.specs.declared.request.Asked.TheVariants as ask
@@ -36,7 +37,7 @@ pub record Interrupted (old new : Met) (entries : List Entry) : Type 0 where
   pub taken : List ℕ
   pub lost : Consumes old.left new.left taken
   pub carried : Carried (turns ++ last ∷ []) taken old.clock new.clock entries
-  pub wanted : last.message.head.kind ≢ 4
+  pub wanted : last.message.head.kind ≢ oneway_kind
   pub replied : Goes (RepliedPart (replies_of turns) (turn_bytes last)) old.held new.held
 
 -- the rest is a front of a message, or empty, and within the bytes that a message may have at this place

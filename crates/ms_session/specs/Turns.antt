@@ -10,6 +10,7 @@ use Rattle.cat_types.specs.declared.steps.Step.{Step}
 use Rattle.cat_types.specs.declared.steps.Step.TheVariants as step
 use Rattle.desk.specs.History.{Entry}
 use Rattle.thrift_binary.specs.declared.head.Head.{Head}
+use Rattle.thrift_binary.specs.Codes.{oneway_kind}
 use Rattle.thrift_binary.specs.Messages.{Message, Asks, AreMessages}
 use Rattle.ms_calls.specs.Refusals.{bad_argument, out_of_memory, store_fault, unknown_method}
 use Rattle.ms_calls.specs.declared.request.Asked.{Asked}
@@ -20,18 +21,22 @@ use Rattle.ms_session.specs.declared.request.Request.{Request}
 
 -- ---- one message
 
--- the reply that a desk's answer makes
-abbrev pub reply_to : Answer → Reply
-reply_to (answer.Reply reply) = reply
-reply_to answer.StoreFault = store_fault
-reply_to answer.NoMemory = out_of_memory
+-- A desk's answer to a call makes this reply: its own, or the refusal that tells a store fault or want of memory. What a desk answers to no call makes none.
+abbrev pub IsReplyTo : Answer → Reply → Type 0
+IsReplyTo (answer.Reply told) reply = reply ≡ told
+IsReplyTo answer.StoreFault reply = reply ≡ store_fault
+IsReplyTo answer.NoMemory reply = reply ≡ out_of_memory
+
+-- the desk took no step, and this reply is due
+abbrev pub WithoutSteps : Reply → List Entry → Reply → Type 0
+WithoutSteps told entries reply = (entries ≡ []) × (reply ≡ told)
 
 -- the entries of the caller for what a message asks, and the reply that is due: a call is one step, and its answer makes the reply; nothing else is a step, and no reply is due to the end of the session
 abbrev pub Due : Asked → List Entry → Reply → Type 0
-Due (Client call) entries reply = (e : Entry) × (moment : ℕ) × (entries ≡ e ∷ []) × (e.0.step ≡ step.Client call moment) × (reply ≡ reply_to e.1.answer)
-Due (Plain answer) entries reply = (entries ≡ []) × (reply ≡ answer)
-Due Unknown entries reply = (entries ≡ []) × (reply ≡ unknown_method)
-Due (BadArgument id) entries reply = (entries ≡ []) × (reply ≡ bad_argument id)
+Due (Client call) entries reply = (e : Entry) × (moment : ℕ) × (entries ≡ e ∷ []) × (e.0.step ≡ step.Client call moment) × IsReplyTo e.1.answer reply
+Due (Plain told) entries reply = WithoutSteps told entries reply
+Due Unknown entries reply = WithoutSteps unknown_method entries reply
+Due (BadArgument id) entries reply = WithoutSteps (bad_argument id) entries reply
 Due Shutdown entries reply = ⊥
 
 -- a message that was carried out, the caller's entries for it, and its reply
@@ -54,12 +59,13 @@ replies_of turns = flat_map (λ turn. sent_for turn.message.head turn.reply) tur
 
 -- ---- the clock
 
--- the moments that entries were taken at
-abbrev pub moment_of : Step → ℕ
-moment_of (step.Client call moment) = moment
+-- the moments of the clock that a step was taken at: a call has one
+abbrev pub moments_in : Step → List ℕ
+moments_in (step.Client call moment) = moment ∷ []
 
+-- the moments of entries, in their order
 abbrev pub moments_of : List Entry → List ℕ
-moments_of entries = map (λ e. moment_of e.0.step) entries
+moments_of entries = flat_map (λ e. moments_in e.0.step) entries
 
 -- the clock was asked for these moments in order, and for no others
 abbrev pub Timed : List ℕ → Option (List ℕ) → Option (List ℕ) → Type 0
@@ -94,7 +100,7 @@ Replies head reply held held' = Goes (Replied (sent_for head reply)) held held'
 
 -- the message wants a reply, and a front of it was written
 abbrev pub Begins : Head → Reply → Option Held → Option Held → Type 0
-Begins head reply held held' = (head.kind ≢ 4) × Goes (GrewPart (reply_bytes head reply)) held held'
+Begins head reply held held' = (head.kind ≢ oneway_kind) × Goes (GrewPart (reply_bytes head reply)) held held'
 
 -- a request was carried out with these entries, and this became of its reply
 abbrev pub AnswersBy : (Head → Reply → Option Held → Option Held → Type 0) → Request → List Entry → Option (List ℕ) → Option (List ℕ) → Option Held → Option Held → Type 0

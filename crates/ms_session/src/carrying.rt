@@ -1,13 +1,13 @@
 //! Carrying out what a message asks.
 
-ghost use Rattle.std.specs.Prelude.{◌≡◌, ◌≤◌, IfOk, Option, Some};
+ghost use Rattle.std.specs.Prelude.{◌≡◌, ◌≤◌, IfOk, Option};
 ghost use Rattle.cat_types.specs.declared.replies.Reply.{Reply};
 ghost use Rattle.desk.specs.Adds.{Adds};
 ghost use Rattle.desk.specs.History.{Legal, NoneAbove};
-ghost use Rattle.ms_calls.specs.Asked.{IfClient, IfPlain, method_of};
+ghost use Rattle.ms_calls.specs.Asked.{CameAs, IfClient, IfPlain};
 ghost use Rattle.ms_calls.specs.Replies.{CanReply};
 ghost use Rattle.ms_calls.specs.declared.method.Method.{Method};
-ghost use Rattle.ms_session.specs.Turns.{Did, reply_to};
+ghost use Rattle.ms_session.specs.Turns.{Did, IsReplyTo};
 
 use cat_types::{Answer, Call, NoMemory, Reply, Step};
 use desk::Desk;
@@ -30,7 +30,7 @@ pub fn carry_out<D: Desk, C: Clock>(
     ensures counted { NoneAbove (D.faults desk.old) (D.history desk.old) → NoneAbove (D.faults desk.new) (D.history desk.new) }
     ensures clock_later { C.faults clock.old ≤ C.faults clock.new }
     ensures carried { Adds D.alone (D.caller desk.old) (D.history desk.old) (D.history desk.new) (Did asked (C.moments clock.old) (C.moments clock.new) result) }
-    ensures can { (method : Option Method) → IfPlain asked (CanReply method) → IfClient asked (λ call. method ≡ Some (method_of call)) → IfOk result (CanReply method) }
+    ensures can { (method : Option Method) → IfPlain asked (CanReply method) → IfClient asked (CameAs method) → IfOk result (CanReply method) }
 {
     match asked {
         Asked::Client(call) => call_desk(alloc, call, desk, clock),
@@ -54,7 +54,7 @@ fn call_desk<D: Desk, C: Clock>(
     ensures counted { NoneAbove (D.faults desk.new) (D.history desk.new) }
     ensures clock_later { C.faults clock.old ≤ C.faults clock.new }
     ensures carried { Adds D.alone (D.caller desk.old) (D.history desk.old) (D.history desk.new) (Did (Asked.Client call) (C.moments clock.old) (C.moments clock.new) result) }
-    ensures can { IfOk result (CanReply (Some (method_of call))) }
+    ensures can { (method : Option Method) → CameAs method call → IfOk result (CanReply method) }
 {
     let moment = clock.now();
     reply_of(alloc, desk.step(Step::Client { call, moment }))
@@ -62,7 +62,7 @@ fn call_desk<D: Desk, C: Clock>(
 
 // The reply that a desk's answer makes.
 fn reply_of(alloc: Global, answer: Answer) -> Result<Reply, NoMemory>
-    ensures { IfOk result (λ reply. reply ≡ reply_to answer) }
+    ensures { IfOk result (IsReplyTo answer) }
 {
     match answer {
         Answer::Reply(reply) => Ok(reply),

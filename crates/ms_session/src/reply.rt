@@ -7,7 +7,7 @@ ghost use Rattle.ms_calls.specs.Replies.{CanReply};
 ghost use Rattle.ms_session.specs.Replies.{reply_bytes};
 
 use cat_types::{NoMemory, Reply};
-use ms_calls::{out_of_memory, put_reply};
+use ms_calls::{Method, out_of_memory, put_reply_of};
 use std::alloc::Global;
 use thrift_binary::{Head, WireWriter};
 
@@ -17,28 +17,36 @@ use thrift_binary::{Head, WireWriter};
 pub fn gather_reply(
     alloc: Global,
     head: &Head,
+    method: Option<Method>,
     due: Result<Reply, NoMemory>,
     writer: &mut WireWriter,
 ) -> Result<(), NoMemory>
     requires empty { writer.old ≡ [] }
-    requires can { IfOk due (CanReply (method_named head.now.name)) }
+    requires named { method ≡ method_named head.now.name }
+    requires can { IfOk due (CanReply method) }
     ensures { OnOk result (MatchResult due (λ reply. (writer.new ≡ reply_bytes head.now reply) ⊎ (writer.new ≡ reply_bytes head.now out_of_memory)) (λ _. writer.new ≡ reply_bytes head.now out_of_memory)) }
 {
     if let Ok(reply) = due {
-        match put_reply(writer, head, &reply) {
+        match put_reply_of(writer, head, method, &reply) {
             Ok(()) => return Ok(()),
             Err(NoMemory) => writer.clear(),
         }
     }
-    gather_refusal(alloc, head, writer)
+    gather_refusal(alloc, head, method, writer)
 }
 
 // Gathers the reply that says that there was no memory.
 #[tactic(auto, unfolding(crate::specs::Replies::reply_bytes))]
-fn gather_refusal(alloc: Global, head: &Head, writer: &mut WireWriter) -> Result<(), NoMemory>
-    requires { writer.old ≡ [] }
+fn gather_refusal(
+    alloc: Global,
+    head: &Head,
+    method: Option<Method>,
+    writer: &mut WireWriter,
+) -> Result<(), NoMemory>
+    requires named { method ≡ method_named head.now.name }
+    requires empty { writer.old ≡ [] }
     ensures { OnOk result (writer.new ≡ reply_bytes head.now out_of_memory) }
 {
     let refusal = out_of_memory(alloc)?;
-    put_reply(writer, head, &refusal)
+    put_reply_of(writer, head, method, &refusal)
 }

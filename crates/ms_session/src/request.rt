@@ -7,17 +7,19 @@ ghost use Rattle.ms_structs.specs.Getting.{Gets};
 ghost use Rattle.thrift_binary.specs.Messages.{Asks, StopsMessage};
 ghost use Rattle.thrift_binary.specs.Openings.{IsInside};
 ghost use Rattle.thrift_binary.specs.Taking.{fresh};
-ghost use Rattle.ms_session.specs.Requests.{Fits, IsNext, SaysRequest};
+ghost use Rattle.ms_session.specs.Requests.{CameUnderItsName, IsNext, SaysRequest};
 
 use hms_outside::Source;
-use ms_calls::{Asked, asked};
+use ms_calls::{Asked, Method, asked_by, method_named};
 use std::alloc::Global;
 use thrift_binary::{Head, WireFault, WireReader};
 
-/// A message of a session: its head, and what it asks.
+/// A message of a session: its head, the method that its name is, where anybody knows it, and what
+/// it asks.
 #[derive(Drop)]
 pub struct Request {
     pub head: Head,
+    pub method: Option<Method>,
     pub asked: Asked,
 }
 
@@ -43,11 +45,16 @@ pub fn next_request<S: Source>(
     ensures end { IfOk result (λ request. IfNone request (IsAtEnd (S.left reader.new.source.now))) }
     ensures inside { IfErr result (IsInside reader.old.progress) }
     ensures forward { IfOk result (λ request. OnSome request (reader.old.progress.place < reader.new.progress.place)) }
-    ensures fits { IfOk result (λ request. IfSome request Fits) }
+    ensures named { IfOk result (λ request. IfSome request CameUnderItsName) }
 {
     let Some(head) = reader.head(alloc)? else {
         return Ok(None);
     };
-    let asked = asked(alloc, &head, reader)?;
-    Ok(Some(Request { head, asked }))
+    let method = method_named(head.name.as_str());
+    let asked = asked_by(alloc, method, reader)?;
+    Ok(Some(Request {
+        head,
+        method,
+        asked,
+    }))
 }

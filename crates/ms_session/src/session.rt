@@ -6,7 +6,7 @@ ghost use Rattle.desk.specs.Adds.{Adds};
 ghost use Rattle.desk.specs.History.{Legal, NoneAbove};
 ghost use Rattle.thrift_binary.specs.Taking.{start};
 ghost use Rattle.ms_calls.specs.declared.request.Asked.{Asked};
-ghost use Rattle.ms_session.specs.Requests.{Fits};
+ghost use Rattle.ms_session.specs.Requests.{CameUnderItsName};
 ghost use Rattle.ms_session.specs.Session.{Session, end_of_fault};
 ghost use Rattle.ms_session.specs.Turns.{Answers};
 
@@ -122,7 +122,7 @@ fn answer<K: Sink, D: Desk, C: Clock>(
 ) -> Result<(), SendFault>
     requires empty { writer.old ≡ [] }
     requires goes_on { request.asked ≡ Asked.Shutdown → ⊥ }
-    requires fits { Fits request }
+    requires named { CameUnderItsName request }
     ensures emptied { OnOk result (writer.new ≡ []) }
     ensures answers { Adds D.alone (D.caller desk.old) (D.history desk.old) (D.history desk.new) (λ own.
         Answers request own (C.moments clock.old) (C.moments clock.new) (K.held sink.old) (K.held sink.new) result) }
@@ -135,13 +135,17 @@ fn answer<K: Sink, D: Desk, C: Clock>(
     ensures cause { IsErrOf result SendFault.WriteFault → Rose (K.faults sink.old) (K.faults sink.new) }
     ensures sink_stays { StaysBut SendFault.WriteFault result (K.faults sink.old) (K.faults sink.new) }
 {
-    let Request { head, asked } = request;
+    let Request {
+        head,
+        method,
+        asked,
+    } = request;
     let due = carry_out(alloc, asked, desk, clock);
     if is_one_way(&head) {
         drop(due);
         return Ok(());
     }
-    match gather_reply(alloc, &head, due, writer) {
+    match gather_reply(alloc, &head, method, due, writer) {
         Ok(()) => writer.send(sink),
         Err(NoMemory) => Err(SendFault::NoMemory),
     }

@@ -6,6 +6,7 @@ use Rattle.ms_structs.specs.declared.got.Got.{Got}
 use Rattle.ms_structs.specs.declared.got.Got.TheVariants.{Nothing}
 use Rattle.ms_structs.specs.Slots.{slot, made_of, struct_of, optional_of, given_or, for_said}
 use Rattle.ms_structs.specs.Values.{text_of, params_of}
+use Rattle.thrift_binary.specs.Codes.{map_code, text_code}
 use Rattle.thrift_binary.specs.Tree.{Fields, Wire}
 
 -- 1 name, 2 description, 3 locationUri, 4 parameters, 6 ownerName
@@ -14,11 +15,11 @@ database_none = record { name = Nothing; description = Nothing; location = Nothi
 
 abbrev pub database_set : DatabaseFields → ℕ → ℤ → Wire → DatabaseFields
 database_set f ty id w = record {
-  name = slot (pos 1) 11 text_of f.name ty id w;
-  description = slot (pos 2) 11 text_of f.description ty id w;
-  location = slot (pos 3) 11 text_of f.location ty id w;
-  params = slot (pos 4) 13 params_of f.params ty id w;
-  owner = slot (pos 6) 11 text_of f.owner ty id w;
+  name = slot (pos 1) text_code text_of f.name ty id w;
+  description = slot (pos 2) text_code text_of f.description ty id w;
+  location = slot (pos 3) text_code text_of f.location ty id w;
+  params = slot (pos 4) map_code params_of f.params ty id w;
+  owner = slot (pos 6) text_code text_of f.owner ty id w;
 }
 
 -- absent texts stay absent, and an absent map is empty

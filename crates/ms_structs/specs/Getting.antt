@@ -1,6 +1,7 @@
 -- Reading a value and keeping what it says.
 use Rattle.std.specs.Prelude.{◌≡◌, ℕ, ◌+◌, ◌≤◌, ◌⊎◌, List, length, Option, Some, None, Result, Ok, Err, ⊤}
 use Rattle.std.specs.Io.KnownBytes.{Consumes}
+use Rattle.thrift_binary.specs.Codes.{struct_code}
 use Rattle.thrift_binary.specs.declared.fault.WireFault.{WireFault}
 use Rattle.thrift_binary.specs.declared.fault.WireFault.TheVariants.{NoMemory}
 use Rattle.thrift_binary.specs.declared.progress.Progress.{Progress}
@@ -32,8 +33,8 @@ Gets {W} {T} left left' old new (Err fault) Is Says Stopped = Reads {T = T} left
 
 -- What a reading of a struct by itself answers: what its fields make, or that they make nothing, since a text that counts isn't UTF-8; then the struct was read to its end. Where memory is refused it was begun, or read to its end.
 abbrev pub Makes : {T : Type 0} → Option (List ℕ) → Option (List ℕ) → Progress → Progress → Result T StructFault → (Fields → Option T) → Type 0
-Makes left left' old new (Ok value) made = Took left left' old new (λ bytes. (v : Fields) × IsWire (Struct v) old.room 12 bytes × (made v ≡ Some value))
-Makes left left' old new (Err BadText) made = Took left left' old new (λ bytes. (v : Fields) × IsWire (Struct v) old.room 12 bytes × (made v ≡ None))
+Makes left left' old new (Ok value) made = Took left left' old new (λ bytes. (v : Fields) × IsWire (Struct v) old.room struct_code bytes × (made v ≡ Some value))
+Makes left left' old new (Err BadText) made = Took left left' old new (λ bytes. (v : Fields) × IsWire (Struct v) old.room struct_code bytes × (made v ≡ None))
 Makes {T = T} left left' old new (Err (told.Wire fault)) made =
-    Reads {T = T} left left' old new (Err fault) (λ _ _. ⊤) (StopsWire old.room 12)
-    ⊎ Refused left left' old new fault (Begun (λ v. IsWire (Struct v) old.room 12) (StopsWire old.room 12))
+    Reads {T = T} left left' old new (Err fault) (λ _ _. ⊤) (StopsWire old.room struct_code)
+    ⊎ Refused left left' old new fault (Begun (λ v. IsWire (Struct v) old.room struct_code) (StopsWire old.room struct_code))

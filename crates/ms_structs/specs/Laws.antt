@@ -8,6 +8,7 @@ use Rattle.std.specs.Str.{IsUtf8, bytes_eq}
 use Rattle.cat_values.specs.declared.records.DbRec.{DbRec}
 use Rattle.ms_structs.specs.declared.got.Got.TheVariants.{BadText, Is}
 use Rattle.ms_structs.specs.Written.{database_fields}
+use Rattle.thrift_binary.specs.Codes.{map_code, text_code}
 use Rattle.thrift_binary.specs.Tree.{Wire, Bytes, Entries, NoEntries, Entry, Fields, Pairs, Struct}
 use Rattle.ms_structs.specs.Slots.{only, said}
 use Rattle.ms_structs.specs.Values.{params_of, text_of}
@@ -16,11 +17,11 @@ use Rattle.ms_structs.specs.Database.{database_made, database_of, database_whole
 -- a database is made of what the last field with each known id says, of those that say something
 abbrev pub DatabaseIsSaid : Type 0
 DatabaseIsSaid = (v : Fields) → database_made v ≡ database_whole (record {
-  name = said (pos 1) 11 text_of v;
-  description = said (pos 2) 11 text_of v;
-  location = said (pos 3) 11 text_of v;
-  params = said (pos 4) 13 params_of v;
-  owner = said (pos 6) 11 text_of v;
+  name = said (pos 1) text_code text_of v;
+  description = said (pos 2) text_code text_of v;
+  location = said (pos 3) text_code text_of v;
+  params = said (pos 4) map_code params_of v;
+  owner = said (pos 6) text_code text_of v;
 })
 
 -- structs that have the same fields under each id, whatever stands between them, say the same database
@@ -67,7 +68,7 @@ last_text key before (Entry k w ps) = last_text key before ps
 
 -- of the pairs of a map from texts to texts the last one with a key counts
 abbrev pub LastPairCounts : Type 0
-LastPairCounts = (ps : Entries) (params : List (List ℕ × List ℕ)) (key : List ℕ) → AreTextBytes ps → params_of (Pairs 11 11 ps) ≡ Is params → lookup (bytes_eq key) params ≡ last_text key None ps
+LastPairCounts = (ps : Entries) (params : List (List ℕ × List ℕ)) (key : List ℕ) → AreTextBytes ps → params_of (Pairs text_code text_code ps) ≡ Is params → lookup (bytes_eq key) params ≡ last_text key None ps
 
 -- some key isn't UTF-8
 abbrev pub HasBadKey : Entries → Type 0
@@ -81,4 +82,4 @@ HasBadValue ps = (key text : List ℕ) × (last_text key None ps ≡ Some text) 
 
 -- a map from texts to texts is a bad text exactly where some key isn't UTF-8, or the last value of some key isn't
 abbrev pub BadMapsAreTold : Type 0
-BadMapsAreTold = (ps : Entries) → AreTextBytes ps → (params_of (Pairs 11 11 ps) ≡ BadText) ↔ (HasBadKey ps ⊎ HasBadValue ps)
+BadMapsAreTold = (ps : Entries) → AreTextBytes ps → (params_of (Pairs text_code text_code ps) ≡ BadText) ↔ (HasBadKey ps ⊎ HasBadValue ps)

@@ -9,6 +9,7 @@ use Rattle.std.specs.Map.{remove_entry}
 use Rattle.ms_structs.specs.declared.got.Got.{Got}
 use Rattle.ms_structs.specs.declared.got.Got.TheVariants.{Nothing, BadText, Is}
 use Rattle.ms_structs.specs.declared.pairs.PairsSoFar.{PairsSoFar}
+use Rattle.thrift_binary.specs.Codes.{text_code}
 use Rattle.thrift_binary.specs.Taking.{Stop}
 use Rattle.thrift_binary.specs.Wire.{IsThen, StopsThen, IsWire, StopsWire}
 use Rattle.ms_structs.specs.Slots.{said_or_bad, typed}
@@ -91,4 +92,4 @@ pairs_of cmp key key_means value value_means w = Nothing
 
 -- a map from texts to texts
 abbrev pub params_of : Wire → Got (List (List ℕ × List ℕ))
-params_of = pairs_of (slice_cmp nat_cmp) 11 text_of 11 text_of
+params_of = pairs_of (slice_cmp nat_cmp) text_code text_of text_code text_of

@@ -3,6 +3,7 @@
 ghost use Rattle.std.specs.Prelude.{◌≡◌, ℕ, ℤ, ◌≤◌, None, IsErrOf};
 ghost use Rattle.hms_outside.specs.Causes.{Rose, StaysBut};
 ghost use Rattle.ms_structs.specs.Getting.{Makes};
+ghost use Rattle.thrift_binary.specs.Codes.{struct_code};
 ghost use Rattle.thrift_binary.specs.Sending.{Gathers};
 ghost use Rattle.thrift_binary.specs.Strict.{fields_bytes, wire_bytes};
 ghost use Rattle.thrift_binary.specs.Tree.{Struct};
@@ -16,7 +17,7 @@ use crate::{
 use cat_types::{DbArg, DbRec, MapOf, NoMemory, Params, Text};
 use hms_outside::Source;
 use std::alloc::Global;
-use thrift_binary::{WireFault, WireReader, WireWriter};
+use thrift_binary::{WireFault, WireReader, WireWriter, type_code};
 
 /// What the fields of a Database said.
 #[derive(Drop)]
@@ -85,9 +86,9 @@ impl StructSink for DatabaseFields {
 }
 
 impl FromWire for DbArg {
-    ghost CODE = { 12 };
+    ghost CODE = { struct_code };
 
-    const CODE: u8 = 12;
+    const CODE: u8 = type_code::STRUCT;
 
     ghost means = { database_of };
 
@@ -117,7 +118,7 @@ pub fn read_database<S: Source>(
 /// A Database with its fields in rising order of their ids. Absent texts aren't written; the
 /// parameters always are.
 pub fn write_database(writer: &mut WireWriter, name: &Text, rec: &DbRec) -> Result<(), NoMemory>
-    ensures { Gathers writer.old writer.new result (wire_bytes 12 (Struct (database_fields name.now rec.now))) }
+    ensures { Gathers writer.old writer.new result (wire_bytes struct_code (Struct (database_fields name.now rec.now))) }
 {
     put_database_fields(writer, name, rec)?;
     writer.stop()
@@ -127,11 +128,11 @@ pub fn write_database(writer: &mut WireWriter, name: &Text, rec: &DbRec) -> Resu
 fn put_database_fields(writer: &mut WireWriter, name: &Text, rec: &DbRec) -> Result<(), NoMemory>
     ensures { Gathers writer.old writer.new result (fields_bytes (database_fields name.now rec.now)) }
 {
-    writer.field(11, 1)?;
+    writer.field(type_code::STRING, 1)?;
     writer.text(name)?;
     put_optional(writer, 2, &rec.description)?;
     put_optional(writer, 3, &rec.location)?;
-    writer.field(13, 4)?;
+    writer.field(type_code::MAP, 4)?;
     put_params(writer, &rec.params)?;
     put_optional(writer, 6, &rec.owner)
 }

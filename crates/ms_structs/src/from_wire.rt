@@ -3,6 +3,7 @@
 ghost use Rattle.std.specs.Prelude.{◌≡◌, ℕ, ◌≤◌, None, IsErrOf, ⊤};
 ghost use Rattle.hms_outside.specs.Causes.{Rose, StaysBut};
 ghost use Rattle.ms_structs.specs.Getting.{Gets};
+ghost use Rattle.thrift_binary.specs.Codes.{bool_code, i32_code, i64_code, text_code};
 ghost use Rattle.thrift_binary.specs.Tree.{Wire};
 ghost use Rattle.thrift_binary.specs.Wire.{IsCode, IsWire, StopsWire};
 ghost use Rattle.ms_structs.specs.declared.got.Got.{Got};
@@ -13,7 +14,7 @@ use crate::Got;
 use cat_types::Text;
 use hms_outside::Source;
 use std::alloc::Global;
-use thrift_binary::{WireFault, WireReader};
+use thrift_binary::{WireFault, WireReader, type_code};
 
 /// What is read off a value of one type.
 pub trait FromWire: Drop {
@@ -90,9 +91,9 @@ impl<T: FromWire> Got<T> {
 }
 
 impl FromWire for bool {
-    ghost CODE = { 2 };
+    ghost CODE = { bool_code };
 
-    const CODE: u8 = 2;
+    const CODE: u8 = type_code::BOOL;
 
     ghost means = { flag_of };
 
@@ -105,9 +106,9 @@ impl FromWire for bool {
 }
 
 impl FromWire for i32 {
-    ghost CODE = { 8 };
+    ghost CODE = { i32_code };
 
-    const CODE: u8 = 8;
+    const CODE: u8 = type_code::I32;
 
     ghost means = { number_of };
 
@@ -120,9 +121,9 @@ impl FromWire for i32 {
 }
 
 impl FromWire for i64 {
-    ghost CODE = { 10 };
+    ghost CODE = { i64_code };
 
-    const CODE: u8 = 10;
+    const CODE: u8 = type_code::I64;
 
     ghost means = { number_of };
 
@@ -135,9 +136,9 @@ impl FromWire for i64 {
 }
 
 impl FromWire for Text {
-    ghost CODE = { 11 };
+    ghost CODE = { text_code };
 
-    const CODE: u8 = 11;
+    const CODE: u8 = type_code::STRING;
 
     ghost means = { text_of };
 

@@ -3,6 +3,7 @@
 ghost use Rattle.std.specs.Prelude.{◌≡◌, ◌≢◌, ◌==◌, ◌||◌, ℕ, ◌≤◌, if◌then◌else◌, None, Some, [], IsErrOf, OnOk};
 ghost use Rattle.hms_outside.specs.Causes.{Rose, StaysBut};
 ghost use Rattle.ms_structs.specs.Getting.{Gets};
+ghost use Rattle.thrift_binary.specs.Codes.{list_code};
 ghost use Rattle.thrift_binary.specs.Tree.{Elements, Wire, elements_count};
 ghost use Rattle.thrift_binary.specs.Wire.{AreElements, IsElementType, StopsElements};
 ghost use Rattle.ms_structs.specs.declared.got.Got.TheVariants.{Nothing};
@@ -13,12 +14,12 @@ use crate::{FromWire, Got, read_typed, said_or_bad};
 use cat_types::{ListOf, NoMemory};
 use hms_outside::Source;
 use std::alloc::Global;
-use thrift_binary::{WireFault, WireReader};
+use thrift_binary::{WireFault, WireReader, type_code};
 
 impl<T: FromWire> FromWire for ListOf<T> {
-    ghost CODE = { 15 };
+    ghost CODE = { list_code };
 
-    const CODE: u8 = 15;
+    const CODE: u8 = type_code::LIST;
 
     ghost means = { items_of T.CODE T.means };
 

@@ -3,6 +3,7 @@
 ghost use Rattle.std.specs.Prelude.{◌≡◌, ◌≢◌, ◌==◌, ◌||◌, ◌&&◌, ℕ, ◌≤◌, if◌then◌else◌, None, Some, IsErrOf, OnOk};
 ghost use Rattle.hms_outside.specs.Causes.{Rose, StaysBut};
 ghost use Rattle.ms_structs.specs.Getting.{Gets};
+ghost use Rattle.thrift_binary.specs.Codes.{map_code};
 ghost use Rattle.thrift_binary.specs.Tree.{Entries, Wire, entries_count};
 ghost use Rattle.thrift_binary.specs.Wire.{AreEntries, IsCode, IsElementType, StopsEntries};
 ghost use Rattle.ms_structs.specs.declared.got.Got.TheVariants.{Nothing};
@@ -13,12 +14,12 @@ use crate::{FromWire, Got, PairsSoFar, read_typed};
 use cat_types::{MapOf, NoMemory};
 use hms_outside::Source;
 use std::alloc::Global;
-use thrift_binary::{WireFault, WireReader};
+use thrift_binary::{WireFault, WireReader, type_code};
 
 impl<K: FromWire + Ord, V: FromWire> FromWire for MapOf<K, V> {
-    ghost CODE = { 13 };
+    ghost CODE = { map_code };
 
-    const CODE: u8 = 13;
+    const CODE: u8 = type_code::MAP;
 
     ghost means = { pairs_of K.cmp K.CODE K.means V.CODE V.means };
 

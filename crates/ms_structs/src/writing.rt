@@ -2,20 +2,21 @@
 
 ghost use Rattle.std.specs.Prelude.{◌<◌, ◌^◌, ◌++◌, length};
 ghost use Rattle.std.specs.List.{flat_map};
+ghost use Rattle.thrift_binary.specs.Codes.{list_code, map_code};
 ghost use Rattle.thrift_binary.specs.Sending.{Gathers};
 ghost use Rattle.thrift_binary.specs.Strict.{fields_bytes, wire_bytes};
 ghost use Rattle.thrift_binary.specs.Wire.{text_bytes};
 ghost use Rattle.ms_structs.specs.Written.{optional_text, params_tree, texts_tree};
 
 use cat_types::{NoMemory, Params, Text};
-use thrift_binary::WireWriter;
+use thrift_binary::{WireWriter, type_code};
 
 /// A list of texts.
 pub fn put_texts(writer: &mut WireWriter, texts: &[Text]) -> Result<(), NoMemory>
     requires { length texts.now < 2 ^ 31 }
-    ensures { Gathers writer.old writer.new result (wire_bytes 15 (texts_tree texts.now)) }
+    ensures { Gathers writer.old writer.new result (wire_bytes list_code (texts_tree texts.now)) }
 {
-    writer.list(11, texts.len() as u32)?;
+    writer.list(type_code::STRING, texts.len() as u32)?;
     put_elements(writer, texts)
 }
 
@@ -31,9 +32,9 @@ fn put_elements(writer: &mut WireWriter, texts: &[Text]) -> Result<(), NoMemory>
 
 /// A map from texts to texts.
 pub fn put_params(writer: &mut WireWriter, params: &Params) -> Result<(), NoMemory>
-    ensures { Gathers writer.old writer.new result (wire_bytes 13 (params_tree params.now)) }
+    ensures { Gathers writer.old writer.new result (wire_bytes map_code (params_tree params.now)) }
 {
-    writer.map(11, 11, params.len() as u32)?;
+    writer.map(type_code::STRING, type_code::STRING, params.len() as u32)?;
     put_pairs(writer, params)
 }
 
@@ -54,7 +55,7 @@ pub fn put_optional(writer: &mut WireWriter, id: i16, text: &Option<Text>) -> Re
 {
     match text {
         Some(text) => {
-            writer.field(11, id)?;
+            writer.field(type_code::STRING, id)?;
             writer.text(text)
         }
         None => Ok(()),

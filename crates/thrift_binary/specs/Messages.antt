@@ -2,18 +2,26 @@
 use Rattle.std.specs.Prelude.{◌≡◌, ◌≢◌, ℕ, ◌+◌, ◌≤◌, ◌⊎◌, Bool, true, false, List, [], ◌∷◌, ◌++◌, length, Some, None, ℤ, pos, ◌<ℤ◌}
 use Rattle.std.specs.Str.{IsUtf8}
 use Rattle.cat_values.specs.declared.text.TheConstants.{TEXT_LIMIT}
+use Rattle.thrift_binary.specs.declared.head.Direction.{Direction}
+use Rattle.thrift_binary.specs.declared.head.Direction.TheVariants as going
 use Rattle.thrift_binary.specs.declared.head.Head.{Head}
 use Rattle.thrift_binary.specs.declared.limits.TheConstants.{DEPTH_LIMIT}
+use Rattle.thrift_binary.specs.Codes.{bad_kind, bad_name, bad_version, call_kind, exception_kind, oneway_kind, reply_kind, struct_code}
 use Rattle.thrift_binary.specs.Taking.{Stop, Cut, Bad, Large, room_at}
 use Rattle.thrift_binary.specs.Tree.{Fields, Struct}
 use Rattle.thrift_binary.specs.Wire.{IsThen, StopsThen, StopsShort, IsInt, IsLength, IsBody, IsText, StopsString, IsWire, StopsWire}
 
 -- the kinds of messages that ask: a call, and one that wants no reply; and of those that answer: a reply, and an exception
 abbrev pub Asks : ℕ → Type 0
-Asks kind = (kind ≡ 1) ⊎ (kind ≡ 4)
+Asks kind = (kind ≡ call_kind) ⊎ (kind ≡ oneway_kind)
 
 abbrev pub Replies : ℕ → Type 0
-Replies kind = (kind ≡ 2) ⊎ (kind ≡ 3)
+Replies kind = (kind ≡ reply_kind) ⊎ (kind ≡ exception_kind)
+
+-- the kinds of messages that go in this direction
+abbrev pub KindsOf : Direction → ℕ → Type 0
+KindsOf going.Requests = Asks
+KindsOf going.Replies = Replies
 
 -- a message: whether it came in the strict form, its head, and the fields of its argument struct
 pub record Message : Type 0 where
@@ -40,8 +48,8 @@ IsOpening Kinds (Old n) bytes = IsLength n bytes
 abbrev pub StopsOpening : (ℕ → Type 0) → Stop → List ℕ → Type 0
 StopsOpening Kinds stop bytes =
     StopsShort 4 stop bytes
-    ⊎ ((n : ℤ) × IsInt n bytes × (n <ℤ pos 0) × ((kind : ℕ) → IsStrictWord kind bytes → ⊥) × (stop ≡ Bad 1 0))
-    ⊎ ((kind : ℕ) × IsStrictWord kind bytes × (Kinds kind → ⊥) × (stop ≡ Bad 2 3))
+    ⊎ ((n : ℤ) × IsInt n bytes × (n <ℤ pos 0) × ((kind : ℕ) → IsStrictWord kind bytes → ⊥) × (stop ≡ Bad bad_version 0))
+    ⊎ ((kind : ℕ) × IsStrictWord kind bytes × (Kinds kind → ⊥) × (stop ≡ Bad bad_kind 3))
     ⊎ ((n : ℤ) × IsInt n bytes × (pos TEXT_LIMIT <ℤ n) × (stop ≡ Large 0))
 
 -- in the strict form: the name, a text in UTF-8, and the sequence id
@@ -49,7 +57,7 @@ abbrev pub IsName : List ℕ → List ℕ → Type 0
 IsName name bytes = IsText (Some name) bytes
 
 abbrev pub StopsName : Stop → List ℕ → Type 0
-StopsName stop bytes = StopsString stop bytes ⊎ (IsText None bytes × (stop ≡ Bad 5 4))
+StopsName stop bytes = StopsString stop bytes ⊎ (IsText None bytes × (stop ≡ Bad bad_name 4))
 
 abbrev pub IsNamed : List ℕ × ℤ → List ℕ → Type 0
 IsNamed named bytes = IsThen IsName (λ _. IsInt) named.0 named.1 bytes
@@ -62,13 +70,13 @@ abbrev pub IsOldName : ℕ → List ℕ → List ℕ → Type 0
 IsOldName n name bytes = IsBody n name bytes × IsUtf8 name
 
 abbrev pub StopsOldName : ℕ → Stop → List ℕ → Type 0
-StopsOldName n stop bytes = StopsShort n stop bytes ⊎ ((name : List ℕ) × IsBody n name bytes × (IsUtf8 name → ⊥) × (stop ≡ Bad 5 0))
+StopsOldName n stop bytes = StopsShort n stop bytes ⊎ ((name : List ℕ) × IsBody n name bytes × (IsUtf8 name → ⊥) × (stop ≡ Bad bad_name 0))
 
 abbrev pub IsKind : (ℕ → Type 0) → ℕ → List ℕ → Type 0
 IsKind Kinds kind bytes = (bytes ≡ kind ∷ []) × Kinds kind
 
 abbrev pub StopsKind : (ℕ → Type 0) → Stop → List ℕ → Type 0
-StopsKind Kinds stop bytes = StopsShort 1 stop bytes ⊎ ((kind : ℕ) × (bytes ≡ kind ∷ []) × (Kinds kind → ⊥) × (stop ≡ Bad 2 0))
+StopsKind Kinds stop bytes = StopsShort 1 stop bytes ⊎ ((kind : ℕ) × (bytes ≡ kind ∷ []) × (Kinds kind → ⊥) × (stop ≡ Bad bad_kind 0))
 
 abbrev pub IsKinded : (ℕ → Type 0) → ℕ × ℤ → List ℕ → Type 0
 IsKinded Kinds kinded bytes = IsThen (IsKind Kinds) (λ _. IsInt) kinded.0 kinded.1 bytes
@@ -104,10 +112,10 @@ StopsHead Kinds = StopsThen (IsOpening Kinds) (StopsOpening Kinds) (StopsHeadRes
 
 -- a message: its head, and its argument struct, which is the first that is open
 abbrev pub IsMessage : (ℕ → Type 0) → Message → List ℕ → Type 0
-IsMessage Kinds m bytes = IsThen (IsHead Kinds) (λ _ (arguments : Fields). IsWire (Struct arguments) DEPTH_LIMIT 12) (m.strict, m.head) m.arguments bytes
+IsMessage Kinds m bytes = IsThen (IsHead Kinds) (λ _ (arguments : Fields). IsWire (Struct arguments) DEPTH_LIMIT struct_code) (m.strict, m.head) m.arguments bytes
 
 abbrev pub StopsMessage : (ℕ → Type 0) → Stop → List ℕ → Type 0
-StopsMessage Kinds = StopsThen (IsHead Kinds) (StopsHead Kinds) (λ _. StopsWire DEPTH_LIMIT 12)
+StopsMessage Kinds = StopsThen (IsHead Kinds) (StopsHead Kinds) (λ _. StopsWire DEPTH_LIMIT struct_code)
 
 -- ---- whole texts
 

@@ -7,7 +7,7 @@ use Rattle.thrift_binary.specs.declared.head.Head.{Head}
 use Rattle.thrift_binary.specs.declared.heads.FirstWord.{FirstWord}
 use Rattle.thrift_binary.specs.declared.heads.FirstWord.TheVariants.{OfStrict, OfOld}
 use Rattle.thrift_binary.specs.declared.progress.Progress.{Progress}
-use Rattle.thrift_binary.specs.Messages.{Asks, Message, Opening, Strict, Old, IsOpening, IsHead, IsMessage}
+use Rattle.thrift_binary.specs.Messages.{Message, Opening, Strict, Old, IsOpening, IsHead, IsMessage}
 
 -- what the reader found in the first word, in the relation's words
 abbrev pub meant : FirstWord → Opening
@@ -24,15 +24,17 @@ abbrev pub IsWordOrEnd : Option (List ℕ) → List ℕ → Type 0
 IsWordOrEnd None bytes = bytes ≡ []
 IsWordOrEnd (Some word) bytes = (bytes ≡ word) × (length word ≡ 4)
 
--- the head of a message that asks, in either form, or the end of the input
-abbrev pub IsHeadOrEnd : Option Head → List ℕ → Type 0
-IsHeadOrEnd None bytes = bytes ≡ []
-IsHeadOrEnd (Some head) bytes = (strict : Bool) × IsHead Asks (strict, head) bytes
+-- Kinds, in what follows, are the kinds that a message may have.
+
+-- the head of a message, in either form, or the end of the input
+abbrev pub IsHeadOrEnd : (ℕ → Type 0) → Option Head → List ℕ → Type 0
+IsHeadOrEnd Kinds None bytes = bytes ≡ []
+IsHeadOrEnd Kinds (Some head) bytes = (strict : Bool) × IsHead Kinds (strict, head) bytes
 
 -- a message with this head, or the end of the input
-abbrev pub IsMessageOrEnd : Option Head → List ℕ → Type 0
-IsMessageOrEnd None bytes = bytes ≡ []
-IsMessageOrEnd (Some head) bytes = (m : Message) × (m.head ≡ head) × IsMessage Asks m bytes
+abbrev pub IsMessageOrEnd : (ℕ → Type 0) → Option Head → List ℕ → Type 0
+IsMessageOrEnd Kinds None bytes = bytes ≡ []
+IsMessageOrEnd Kinds (Some head) bytes = (m : Message) × (m.head ≡ head) × IsMessage Kinds m bytes
 
 -- a reader that had no fault tells that the input ends only behind a byte more
 abbrev pub IsInside : Progress → WireFault → Type 0
@@ -42,7 +44,7 @@ IsInside old (TooLarge at) = ⊤
 IsInside old ReadFault = ⊤
 IsInside old NoMemory = ⊤
 
--- the first word of a message that asks, or the end of the input
-abbrev pub IsOpeningOrEnd : Option FirstWord → List ℕ → Type 0
-IsOpeningOrEnd None bytes = bytes ≡ []
-IsOpeningOrEnd (Some found) bytes = IsOpening Asks (meant found) bytes
+-- the first word of a message, or the end of the input
+abbrev pub IsOpeningOrEnd : (ℕ → Type 0) → Option FirstWord → List ℕ → Type 0
+IsOpeningOrEnd Kinds None bytes = bytes ≡ []
+IsOpeningOrEnd Kinds (Some found) bytes = IsOpening Kinds (meant found) bytes

@@ -1,6 +1,7 @@
 -- The one strict spelling, which writing uses.
 use Rattle.std.specs.Prelude.{◌==◌, ℕ, Bool, true, false, List, [], ◌∷◌, ◌++◌, ℤ, pos, if◌then◌else◌}
 use Rattle.thrift_binary.specs.declared.head.Head.{Head}
+use Rattle.thrift_binary.specs.Codes.{byte_code, i16_code, i32_code, stop_code, struct_code}
 use Rattle.thrift_binary.specs.Tree.{Wire, Flag, Number, Eight, Bytes, Struct, Items, Pairs, Fields, NoFields, Field, Elements, NoElements, Element, Entries, NoEntries, Entry, elements_count, entries_count}
 use Rattle.thrift_binary.specs.Wire.{byte_bytes, short_bytes, int_bytes, long_bytes, text_bytes}
 
@@ -26,7 +27,7 @@ head_bytes head = (128 ∷ 1 ∷ 0 ∷ head.kind ∷ []) ++ (text_bytes head.nam
 
 -- a number of this type
 abbrev pub number_bytes : ℕ → ℤ → List ℕ
-number_bytes ty n = if ty == 3 then byte_bytes n else (if ty == 6 then short_bytes n else (if ty == 8 then int_bytes n else long_bytes n))
+number_bytes ty n = if ty == byte_code then byte_bytes n else (if ty == i16_code then short_bytes n else (if ty == i32_code then int_bytes n else long_bytes n))
 
 -- a value of this type
 abbrev mutual
@@ -35,7 +36,7 @@ abbrev mutual
   wire_bytes ty (Number n) = number_bytes ty n
   wire_bytes ty (Eight eight) = eight
   wire_bytes ty (Bytes body) = text_bytes body
-  wire_bytes ty (Struct v) = fields_bytes v ++ 0 ∷ []
+  wire_bytes ty (Struct v) = fields_bytes v ++ stop_code ∷ []
   wire_bytes ty (Items of es) = list_bytes of (elements_count es) ++ elements_bytes of es
   wire_bytes ty (Pairs key value ps) = map_bytes key value (entries_count ps) ++ entries_bytes key value ps
 
@@ -53,4 +54,4 @@ abbrev mutual
 
 -- a whole message: its head and its struct
 abbrev pub message_bytes : Head → Fields → List ℕ
-message_bytes head v = head_bytes head ++ wire_bytes 12 (Struct v)
+message_bytes head v = head_bytes head ++ wire_bytes struct_code (Struct v)

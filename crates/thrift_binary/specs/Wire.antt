@@ -4,6 +4,7 @@ use Rattle.std.specs.Str.{IsUtf8}
 use Rattle.std.specs.Int.{w8, w16, w32, w64, to_be_bytes, cast_unsigned}
 use Rattle.cat_values.specs.declared.text.TheConstants.{TEXT_LIMIT}
 use Rattle.thrift_binary.specs.declared.limits.TheConstants.{COUNT_LIMIT}
+use Rattle.thrift_binary.specs.Codes.{bad_length, bad_type, bool_code, byte_code, double_code, i16_code, i32_code, i64_code, list_code, map_code, set_code, stop_code, struct_code, text_code}
 use Rattle.thrift_binary.specs.Taking.{Stop, Cut, Bad, Large, moved}
 use Rattle.thrift_binary.specs.Tree.{Wire, Flag, Number, Eight, Bytes, Struct, Items, Pairs, Fields, NoFields, Field, Elements, NoElements, Element, Entries, NoEntries, Entry, elements_count, entries_count}
 
@@ -74,7 +75,7 @@ IsLength n bytes = (bytes ≡ int_bytes (pos n)) × (n ≤ TEXT_LIMIT)
 abbrev pub StopsLength : Stop → List ℕ → Type 0
 StopsLength stop bytes =
     StopsShort 4 stop bytes
-    ⊎ ((n : ℤ) × IsInt n bytes × (n <ℤ pos 0) × (stop ≡ Bad 3 0))
+    ⊎ ((n : ℤ) × IsInt n bytes × (n <ℤ pos 0) × (stop ≡ Bad bad_length 0))
     ⊎ ((n : ℤ) × IsInt n bytes × (pos TEXT_LIMIT <ℤ n) × (stop ≡ Large 0))
 
 -- a length, and that many bytes
@@ -93,16 +94,18 @@ IsText None bytes = (body : List ℕ) × IsString body bytes × (IsUtf8 body →
 
 -- the codes of types: bool, byte, double, i16, i32, i64, text, struct, map, set, list
 abbrev pub IsCode : ℕ → Type 0
-IsCode ty = (ty ≡ 2) ⊎ (ty ≡ 3) ⊎ (ty ≡ 4) ⊎ (ty ≡ 6) ⊎ (ty ≡ 8) ⊎ (ty ≡ 10) ⊎ (ty ≡ 11) ⊎ (ty ≡ 12) ⊎ (ty ≡ 13) ⊎ (ty ≡ 14) ⊎ (ty ≡ 15)
+IsCode ty =
+    (ty ≡ bool_code) ⊎ (ty ≡ byte_code) ⊎ (ty ≡ double_code) ⊎ (ty ≡ i16_code) ⊎ (ty ≡ i32_code) ⊎ (ty ≡ i64_code) ⊎ (ty ≡ text_code)
+    ⊎ (ty ≡ struct_code) ⊎ (ty ≡ map_code) ⊎ (ty ≡ set_code) ⊎ (ty ≡ list_code)
 
 -- the type of a field, or the end of a struct
 abbrev pub IsFieldType : Option ℕ → List ℕ → Type 0
-IsFieldType None bytes = bytes ≡ 0 ∷ []
+IsFieldType None bytes = bytes ≡ stop_code ∷ []
 IsFieldType (Some ty) bytes = (bytes ≡ ty ∷ []) × IsCode ty
 
 -- a field's type is judged before its id
 abbrev pub StopsFieldType : Stop → List ℕ → Type 0
-StopsFieldType stop bytes = StopsShort 1 stop bytes ⊎ ((ty : ℕ) × (bytes ≡ ty ∷ []) × (ty ≢ 0) × (IsCode ty → ⊥) × (stop ≡ Bad 4 0))
+StopsFieldType stop bytes = StopsShort 1 stop bytes ⊎ ((ty : ℕ) × (bytes ≡ ty ∷ []) × (ty ≢ stop_code) × (IsCode ty → ⊥) × (stop ≡ Bad bad_type 0))
 
 -- the type and the id of a field, or the end of a struct
 abbrev pub IsField : Option (ℕ × ℤ) → List ℕ → Type 0
@@ -127,7 +130,7 @@ IsListHead ty count bytes = (number : List ℕ) × (bytes ≡ ty ∷ number) × 
 -- no count: it is negative or too large
 abbrev pub IsNoCount : Stop → List ℕ → Type 0
 IsNoCount stop number =
-    ((n : ℤ) × IsInt n number × (n <ℤ pos 0) × (stop ≡ Bad 3 0))
+    ((n : ℤ) × IsInt n number × (n <ℤ pos 0) × (stop ≡ Bad bad_length 0))
     ⊎ ((n : ℤ) × IsInt n number × (pos COUNT_LIMIT <ℤ n) × (stop ≡ Large 0))
 
 -- the count is judged before the type
@@ -135,7 +138,7 @@ abbrev pub StopsListHead : Stop → List ℕ → Type 0
 StopsListHead stop bytes =
     StopsShort 5 stop bytes
     ⊎ ((ty : ℕ) × (number : List ℕ) × (s : Stop) × (bytes ≡ ty ∷ number) × IsNoCount s number × (stop ≡ moved 1 s))
-    ⊎ ((ty count : ℕ) × (number : List ℕ) × (bytes ≡ ty ∷ number) × IsCount count number × (count ≢ 0) × (IsCode ty → ⊥) × (stop ≡ Bad 4 0))
+    ⊎ ((ty count : ℕ) × (number : List ℕ) × (bytes ≡ ty ∷ number) × IsCount count number × (count ≢ 0) × (IsCode ty → ⊥) × (stop ≡ Bad bad_type 0))
 
 -- the head of a map: the type of its keys, that of its values, and how many pairs there are
 abbrev pub IsMapHead : ℕ → ℕ → ℕ → List ℕ → Type 0
@@ -145,25 +148,25 @@ abbrev pub StopsMapHead : Stop → List ℕ → Type 0
 StopsMapHead stop bytes =
     StopsShort 6 stop bytes
     ⊎ ((key value : ℕ) × (number : List ℕ) × (s : Stop) × (bytes ≡ key ∷ value ∷ number) × IsNoCount s number × (stop ≡ moved 2 s))
-    ⊎ ((key value count : ℕ) × (number : List ℕ) × (bytes ≡ key ∷ value ∷ number) × IsCount count number × (count ≢ 0) × (IsCode key → ⊥) × (stop ≡ Bad 4 0))
-    ⊎ ((key value count : ℕ) × (number : List ℕ) × (bytes ≡ key ∷ value ∷ number) × IsCount count number × (count ≢ 0) × IsCode key × (IsCode value → ⊥) × (stop ≡ Bad 4 1))
+    ⊎ ((key value count : ℕ) × (number : List ℕ) × (bytes ≡ key ∷ value ∷ number) × IsCount count number × (count ≢ 0) × (IsCode key → ⊥) × (stop ≡ Bad bad_type 0))
+    ⊎ ((key value count : ℕ) × (number : List ℕ) × (bytes ≡ key ∷ value ∷ number) × IsCount count number × (count ≢ 0) × IsCode key × (IsCode value → ⊥) × (stop ≡ Bad bad_type 1))
 
 -- ---- values of any type
 
 -- a number of this type
 abbrev pub IsNumber : ℕ → ℤ → List ℕ → Type 0
-IsNumber ty n bytes = ((ty ≡ 3) × IsByte n bytes) ⊎ ((ty ≡ 6) × IsShort n bytes) ⊎ ((ty ≡ 8) × IsInt n bytes) ⊎ ((ty ≡ 10) × IsLong n bytes)
+IsNumber ty n bytes = ((ty ≡ byte_code) × IsByte n bytes) ⊎ ((ty ≡ i16_code) × IsShort n bytes) ⊎ ((ty ≡ i32_code) × IsInt n bytes) ⊎ ((ty ≡ i64_code) × IsLong n bytes)
 
 -- the value is spelled in this type, and at most `depth` structs and collections are open inside one another
 abbrev mutual
   pub IsWire : Wire → ℕ → ℕ → List ℕ → Type 0
-  IsWire (Flag value) depth ty bytes = (ty ≡ 2) × IsFlag value bytes
+  IsWire (Flag value) depth ty bytes = (ty ≡ bool_code) × IsFlag value bytes
   IsWire (Number n) depth ty bytes = IsNumber ty n bytes
-  IsWire (Eight eight) depth ty bytes = (ty ≡ 4) × IsBody 8 eight bytes
-  IsWire (Bytes body) depth ty bytes = (ty ≡ 11) × IsString body bytes
-  IsWire (Struct v) depth ty bytes = (ty ≡ 12) × (under : ℕ) × (depth ≡ suc under) × (front : List ℕ) × (bytes ≡ front ++ 0 ∷ []) × AreFields v under front
-  IsWire (Items of es) depth ty bytes = ((ty ≡ 14) ⊎ (ty ≡ 15)) × (under : ℕ) × (depth ≡ suc under) × (head rest : List ℕ) × (bytes ≡ head ++ rest) × IsListHead of (elements_count es) head × AreElements es under of rest
-  IsWire (Pairs key value ps) depth ty bytes = (ty ≡ 13) × (under : ℕ) × (depth ≡ suc under) × (head rest : List ℕ) × (bytes ≡ head ++ rest) × IsMapHead key value (entries_count ps) head × AreEntries ps under key value rest
+  IsWire (Eight eight) depth ty bytes = (ty ≡ double_code) × IsBody 8 eight bytes
+  IsWire (Bytes body) depth ty bytes = (ty ≡ text_code) × IsString body bytes
+  IsWire (Struct v) depth ty bytes = (ty ≡ struct_code) × (under : ℕ) × (depth ≡ suc under) × (front : List ℕ) × (bytes ≡ front ++ stop_code ∷ []) × AreFields v under front
+  IsWire (Items of es) depth ty bytes = ((ty ≡ set_code) ⊎ (ty ≡ list_code)) × (under : ℕ) × (depth ≡ suc under) × (head rest : List ℕ) × (bytes ≡ head ++ rest) × IsListHead of (elements_count es) head × AreElements es under of rest
+  IsWire (Pairs key value ps) depth ty bytes = (ty ≡ map_code) × (under : ℕ) × (depth ≡ suc under) × (head rest : List ℕ) × (bytes ≡ head ++ rest) × IsMapHead key value (entries_count ps) head × AreEntries ps under key value rest
 
   -- fields one behind the other
   pub AreFields : Fields → ℕ → List ℕ → Type 0
@@ -182,14 +185,14 @@ abbrev mutual
 
 -- fields, and the end of their struct
 abbrev pub IsStruct : ℕ → Fields → List ℕ → Type 0
-IsStruct depth v bytes = (front : List ℕ) × (bytes ≡ front ++ 0 ∷ []) × AreFields v depth front
+IsStruct depth v bytes = (front : List ℕ) × (bytes ≡ front ++ stop_code ∷ []) × AreFields v depth front
 
 -- how many bytes a value of a plain type has
 abbrev pub IsWidth : ℕ → ℕ → Type 0
-IsWidth ty n = ((ty ≡ 2) × (n ≡ 1)) ⊎ ((ty ≡ 3) × (n ≡ 1)) ⊎ ((ty ≡ 4) × (n ≡ 8)) ⊎ ((ty ≡ 6) × (n ≡ 2)) ⊎ ((ty ≡ 8) × (n ≡ 4)) ⊎ ((ty ≡ 10) × (n ≡ 8))
+IsWidth ty n = ((ty ≡ bool_code) × (n ≡ 1)) ⊎ ((ty ≡ byte_code) × (n ≡ 1)) ⊎ ((ty ≡ double_code) × (n ≡ 8)) ⊎ ((ty ≡ i16_code) × (n ≡ 2)) ⊎ ((ty ≡ i32_code) × (n ≡ 4)) ⊎ ((ty ≡ i64_code) × (n ≡ 8))
 
 abbrev pub StopsPlain : ℕ → Stop → List ℕ → Type 0
-StopsPlain ty stop bytes = ((n : ℕ) × IsWidth ty n × StopsShort n stop bytes) ⊎ ((ty ≡ 11) × StopsString stop bytes)
+StopsPlain ty stop bytes = ((n : ℕ) × IsWidth ty n × StopsShort n stop bytes) ⊎ ((ty ≡ text_code) × StopsString stop bytes)
 
 -- Stops, in what follows, says where a value of a type stops one deeper.
 
@@ -218,16 +221,16 @@ StopsMapBy Stops depth = StopsThen {A = ℕ × ℕ × ℕ} (λ head. IsMapHead h
 
 -- a struct or a collection
 abbrev pub IsNested : ℕ → Type 0
-IsNested ty = (ty ≡ 12) ⊎ (ty ≡ 13) ⊎ (ty ≡ 14) ⊎ (ty ≡ 15)
+IsNested ty = (ty ≡ struct_code) ⊎ (ty ≡ map_code) ⊎ (ty ≡ set_code) ⊎ (ty ≡ list_code)
 
 -- where a value of this type stops, with at most so many structs and collections open; one that is too deep is judged before its first byte
 abbrev pub StopsWire : ℕ → ℕ → Stop → List ℕ → Type 0
 StopsWire zero ty stop bytes = StopsPlain ty stop bytes ⊎ (IsNested ty × (bytes ≡ []) × (stop ≡ Large 0))
 StopsWire (suc under) ty stop bytes =
     StopsPlain ty stop bytes
-    ⊎ ((ty ≡ 12) × StopsFieldsBy (StopsWire under) under stop bytes)
-    ⊎ (((ty ≡ 14) ⊎ (ty ≡ 15)) × StopsListBy (StopsWire under) under stop bytes)
-    ⊎ ((ty ≡ 13) × StopsMapBy (StopsWire under) under stop bytes)
+    ⊎ ((ty ≡ struct_code) × StopsFieldsBy (StopsWire under) under stop bytes)
+    ⊎ (((ty ≡ set_code) ⊎ (ty ≡ list_code)) × StopsListBy (StopsWire under) under stop bytes)
+    ⊎ ((ty ≡ map_code) × StopsMapBy (StopsWire under) under stop bytes)
 
 -- the same by names: the fields of a struct, the elements of a collection, the pairs of a map
 abbrev pub StopsFields : ℕ → Stop → List ℕ → Type 0

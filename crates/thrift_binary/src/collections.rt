@@ -7,7 +7,7 @@ ghost use Rattle.thrift_binary.specs.Taking.{Judges, Reads};
 ghost use Rattle.thrift_binary.specs.Wire.{IsCode, IsCount, IsElementType, IsField, IsFieldType, IsListHead, IsMapHead, IsNoCount, StopsField, StopsFieldType, StopsListHead, StopsMapHead};
 
 use crate::numbers::int_of;
-use crate::{COUNT_LIMIT, WireFault, WireReader};
+use crate::{COUNT_LIMIT, WireFault, WireReader, bad_wire, type_code};
 use hms_outside::Source;
 
 impl<'a, S: Source> WireReader<'a, S> {
@@ -88,13 +88,13 @@ fn field_type_of(bytes: &[u8], start: u64) -> Result<Option<u8>, WireFault>
     ensures code { IfOk result (λ found. IfSome found IsCode) }
 {
     let ty = bytes[0];
-    if ty == 0 {
+    if ty == type_code::STOP {
         return Ok(None);
     }
     if is_code(ty) {
         return Ok(Some(ty));
     }
-    Err(WireFault::BadWire(4, start))
+    Err(WireFault::BadWire(bad_wire::TYPE, start))
 }
 
 // The head of a list or a set that five bytes at this place spell.
@@ -110,7 +110,7 @@ fn list_head_of(bytes: &[u8], start: u64) -> Result<(u8, u32), WireFault>
     if is_element_type(count, ty) {
         return Ok((ty, count));
     }
-    Err(WireFault::BadWire(4, start))
+    Err(WireFault::BadWire(bad_wire::TYPE, start))
 }
 
 // The head of a map that six bytes at this place spell.
@@ -129,9 +129,9 @@ fn map_head_of(bytes: &[u8], start: u64) -> Result<(u8, u8, u32), WireFault>
         if is_element_type(count, value) {
             return Ok((key, value, count));
         }
-        return Err(WireFault::BadWire(4, start + 1));
+        return Err(WireFault::BadWire(bad_wire::TYPE, start + 1));
     }
-    Err(WireFault::BadWire(4, start))
+    Err(WireFault::BadWire(bad_wire::TYPE, start))
 }
 
 // The count that four bytes at this place spell.
@@ -142,7 +142,7 @@ fn count_of(bytes: &[u8], start: u64) -> Result<u32, WireFault>
 {
     let n = int_of(bytes);
     if n < 0 {
-        return Err(WireFault::BadWire(3, start));
+        return Err(WireFault::BadWire(bad_wire::NEGATIVE, start));
     }
     let n = n as u32;
     if n > COUNT_LIMIT {
@@ -162,5 +162,18 @@ fn is_element_type(count: u32, ty: u8) -> bool
 fn is_code(ty: u8) -> bool
     ensures { IsTrue result ↔ IsCode ty }
 {
-    matches!(ty, 2 | 3 | 4 | 6 | 8 | 10 | 11 | 12 | 13 | 14 | 15)
+    matches!(
+        ty,
+        type_code::BOOL
+            | type_code::BYTE
+            | type_code::DOUBLE
+            | type_code::I16
+            | type_code::I32
+            | type_code::I64
+            | type_code::STRING
+            | type_code::STRUCT
+            | type_code::MAP
+            | type_code::SET
+            | type_code::LIST
+    )
 }

@@ -8,9 +8,7 @@ pub enum WireFault {
     /// The input ends inside a message, at this place.
     #[error("the input ends inside a message, at {0}")]
     Truncated(u64),
-    /// No message goes on as it does at this place: 1 the version isn't that of the strict form,
-    /// 2 the kind isn't that of a call, 3 a length or a count is negative, 4 a type has no such code,
-    /// 5 the name isn't UTF-8.
+    /// No message goes on as the input does at this place, for one of the causes of `bad_wire`.
     #[error("no message goes on so at {1}, for cause {0}")]
     BadWire(u8, u64),
     /// Something too large begins at this place: a text, a collection, a value inside too many others,

@@ -10,3 +10,11 @@ pub struct Head {
     pub kind: u8,
     pub sequence: i32,
 }
+
+/// Which messages are read: those that ask, of the kinds 1 and 4, or those that reply, of the kinds
+/// 2 and 3.
+#[derive(Clone, Copy, Debug, PartialEq, Eq)]
+pub enum Direction {
+    Requests,
+    Replies,
+}

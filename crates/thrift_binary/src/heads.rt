@@ -5,13 +5,13 @@ ghost use Rattle.std.specs.Io.KnownBytes.{IsAtEnd};
 ghost use Rattle.hms_outside.specs.Causes.{Rose, StaysBut};
 ghost use Rattle.cat_values.specs.declared.text.TheConstants.{TEXT_LIMIT};
 ghost use Rattle.thrift_binary.specs.declared.limits.TheConstants.{SESSION_END};
-ghost use Rattle.thrift_binary.specs.Messages.{Asks, IsHeadRest, IsKind, IsKinded, IsName, IsNamed, IsOldName, IsOldRest, IsOpening, IsStrictWord, StopsHead, StopsHeadRest, StopsKind, StopsKinded, StopsMessage, StopsName, StopsNamed, StopsOldName, StopsOldRest, StopsOpening};
+ghost use Rattle.thrift_binary.specs.Messages.{Asks, IsHeadRest, IsKind, IsKinded, IsName, IsNamed, IsOldName, IsOldRest, IsOpening, IsStrictWord, KindsOf, StopsHead, StopsHeadRest, StopsKind, StopsKinded, StopsMessage, StopsName, StopsNamed, StopsOldName, StopsOldRest, StopsOpening};
 ghost use Rattle.thrift_binary.specs.Openings.{IsBounded, IsHeadOrEnd, IsInside, IsMessageOrEnd, IsOpeningOrEnd, IsWordOrEnd, meant};
 ghost use Rattle.thrift_binary.specs.Taking.{Judges, Reads, fresh};
 ghost use Rattle.thrift_binary.specs.Wire.{StopsShort};
 
 use crate::numbers::int_of;
-use crate::{Head, WireFault, WireReader};
+use crate::{Direction, Head, WireFault, WireReader, bad_wire, message_kind, type_code};
 use cat_values::{TEXT_LIMIT, Text};
 use hms_outside::Source;
 use std::alloc::Global;
@@ -33,47 +33,85 @@ impl<'a, S: Source> WireReader<'a, S> {
         ensures later { S.faults self.old.source.now ≤ S.faults self.new.source.now }
         ensures cause { self.old.progress.fault ≡ None → IsErrOf result WireFault.ReadFault → Rose (S.faults self.old.source.now) (S.faults self.new.source.now) }
         ensures stays { StaysBut WireFault.ReadFault result (S.faults self.old.source.now) (S.faults self.new.source.now) }
-        ensures reads { Reads (S.left self.old.source.now) (S.left self.new.source.now) (fresh self.old.progress) self.new.progress result IsHeadOrEnd (StopsHead Asks) }
+        ensures reads { Reads (S.left self.old.source.now) (S.left self.new.source.now) (fresh self.old.progress) self.new.progress result (IsHeadOrEnd Asks) (StopsHead Asks) }
+        ensures unspent { OnOk result (self.new.progress.fault ≡ None) }
+        ensures end { IfOk result (λ head. IfNone head (IsAtEnd (S.left self.new.source.now))) }
+        ensures inside { IfErr result (IsInside self.old.progress) }
+    {
+        self.head_of(alloc, Direction::Requests)
+    }
+
+    /// The head of the next message that goes in this direction, as `head` reads that of a call.
+    pub fn head_of(
+        &mut self,
+        alloc: Global,
+        direction: Direction,
+    ) -> Result<Option<Head>, WireFault>
+        ensures same_source { self.new.source.ghost_name ≡ self.old.source.ghost_name }
+        ensures later { S.faults self.old.source.now ≤ S.faults self.new.source.now }
+        ensures cause { self.old.progress.fault ≡ None → IsErrOf result WireFault.ReadFault → Rose (S.faults self.old.source.now) (S.faults self.new.source.now) }
+        ensures stays { StaysBut WireFault.ReadFault result (S.faults self.old.source.now) (S.faults self.new.source.now) }
+        ensures reads { Reads (S.left self.old.source.now) (S.left self.new.source.now) (fresh self.old.progress) self.new.progress result (IsHeadOrEnd (KindsOf direction)) (StopsHead (KindsOf direction)) }
         ensures unspent { OnOk result (self.new.progress.fault ≡ None) }
         ensures end { IfOk result (λ head. IfNone head (IsAtEnd (S.left self.new.source.now))) }
         ensures inside { IfErr result (IsInside self.old.progress) }
     {
         self.begin();
-        let Some(opening) = self.opening()? else {
+        let Some(opening) = self.opening(direction)? else {
             return Ok(None);
         };
-        let head = self.head_rest(alloc, opening)?;
+        let head = self.head_rest(alloc, direction, opening)?;
         Ok(Some(head))
     }
 
-    /// The next message, whose arguments are passed, or `None` exactly at the end of the input.
+    /// The next call, whose arguments are passed, or `None` exactly at the end of the input.
     pub fn message(&mut self, alloc: Global) -> Result<Option<Head>, WireFault>
         ensures same_source { self.new.source.ghost_name ≡ self.old.source.ghost_name }
         ensures later { S.faults self.old.source.now ≤ S.faults self.new.source.now }
         ensures cause { self.old.progress.fault ≡ None → IsErrOf result WireFault.ReadFault → Rose (S.faults self.old.source.now) (S.faults self.new.source.now) }
         ensures stays { StaysBut WireFault.ReadFault result (S.faults self.old.source.now) (S.faults self.new.source.now) }
-        ensures reads { Reads (S.left self.old.source.now) (S.left self.new.source.now) (fresh self.old.progress) self.new.progress result IsMessageOrEnd (StopsMessage Asks) }
+        ensures reads { Reads (S.left self.old.source.now) (S.left self.new.source.now) (fresh self.old.progress) self.new.progress result (IsMessageOrEnd Asks) (StopsMessage Asks) }
         ensures unspent { OnOk result (self.new.progress.fault ≡ None) }
         ensures end { IfOk result (λ head. IfNone head (IsAtEnd (S.left self.new.source.now))) }
         ensures inside { IfErr result (IsInside self.old.progress) }
         ensures forward { IfOk result (λ head. OnSome head (self.old.progress.place < self.new.progress.place)) }
     {
-        match self.head(alloc)? {
+        self.message_of(alloc, Direction::Requests)
+    }
+
+    /// The next message that goes in this direction, whose struct is passed, or `None` exactly at
+    /// the end of the input.
+    pub fn message_of(
+        &mut self,
+        alloc: Global,
+        direction: Direction,
+    ) -> Result<Option<Head>, WireFault>
+        ensures same_source { self.new.source.ghost_name ≡ self.old.source.ghost_name }
+        ensures later { S.faults self.old.source.now ≤ S.faults self.new.source.now }
+        ensures cause { self.old.progress.fault ≡ None → IsErrOf result WireFault.ReadFault → Rose (S.faults self.old.source.now) (S.faults self.new.source.now) }
+        ensures stays { StaysBut WireFault.ReadFault result (S.faults self.old.source.now) (S.faults self.new.source.now) }
+        ensures reads { Reads (S.left self.old.source.now) (S.left self.new.source.now) (fresh self.old.progress) self.new.progress result (IsMessageOrEnd (KindsOf direction)) (StopsMessage (KindsOf direction)) }
+        ensures unspent { OnOk result (self.new.progress.fault ≡ None) }
+        ensures end { IfOk result (λ head. IfNone head (IsAtEnd (S.left self.new.source.now))) }
+        ensures inside { IfErr result (IsInside self.old.progress) }
+        ensures forward { IfOk result (λ head. OnSome head (self.old.progress.place < self.new.progress.place)) }
+    {
+        match self.head_of(alloc, direction)? {
             None => Ok(None),
             Some(head) => {
-                self.skip(12)?;
+                self.skip(type_code::STRUCT)?;
                 Ok(Some(head))
             }
         }
     }
 
     // What the first word of a message tells. The input may end in its place.
-    fn opening(&mut self) -> Result<Option<FirstWord>, WireFault>
+    fn opening(&mut self, direction: Direction) -> Result<Option<FirstWord>, WireFault>
         ensures same_source { self.new.source.ghost_name ≡ self.old.source.ghost_name }
         ensures later { S.faults self.old.source.now ≤ S.faults self.new.source.now }
         ensures cause { self.old.progress.fault ≡ None → IsErrOf result WireFault.ReadFault → Rose (S.faults self.old.source.now) (S.faults self.new.source.now) }
         ensures stays { StaysBut WireFault.ReadFault result (S.faults self.old.source.now) (S.faults self.new.source.now) }
-        ensures reads { Reads (S.left self.old.source.now) (S.left self.new.source.now) self.old.progress self.new.progress result IsOpeningOrEnd (StopsOpening Asks) }
+        ensures reads { Reads (S.left self.old.source.now) (S.left self.new.source.now) self.old.progress self.new.progress result (IsOpeningOrEnd (KindsOf direction)) (StopsOpening (KindsOf direction)) }
         ensures unspent { OnOk result (self.new.progress.fault ≡ None) }
         ensures end { IfOk result (λ found. IfNone found (IsAtEnd (S.left self.new.source.now))) }
         ensures inside { IfErr result (IsInside self.old.progress) }
@@ -83,7 +121,7 @@ impl<'a, S: Source> WireReader<'a, S> {
         let Some(word) = self.first_word()? else {
             return Ok(None);
         };
-        let opening = self.judged(opening_of(&word, start))?;
+        let opening = self.judged(opening_of(direction, &word, start))?;
         Ok(Some(opening))
     }
 
@@ -116,14 +154,19 @@ impl<'a, S: Source> WireReader<'a, S> {
     }
 
     // What stands behind the first word of a head.
-    fn head_rest(&mut self, alloc: Global, opening: FirstWord) -> Result<Head, WireFault>
+    fn head_rest(
+        &mut self,
+        alloc: Global,
+        direction: Direction,
+        opening: FirstWord,
+    ) -> Result<Head, WireFault>
         requires unspent { self.old.progress.fault ≡ None }
         requires bounded { IsBounded opening }
         ensures same_source { self.new.source.ghost_name ≡ self.old.source.ghost_name }
         ensures later { S.faults self.old.source.now ≤ S.faults self.new.source.now }
         ensures cause { self.old.progress.fault ≡ None → IsErrOf result WireFault.ReadFault → Rose (S.faults self.old.source.now) (S.faults self.new.source.now) }
         ensures stays { StaysBut WireFault.ReadFault result (S.faults self.old.source.now) (S.faults self.new.source.now) }
-        ensures reads { Reads (S.left self.old.source.now) (S.left self.new.source.now) self.old.progress self.new.progress result (IsHeadRest Asks (meant opening)) (StopsHeadRest Asks (meant opening)) }
+        ensures reads { Reads (S.left self.old.source.now) (S.left self.new.source.now) self.old.progress self.new.progress result (IsHeadRest (KindsOf direction) (meant opening)) (StopsHeadRest (KindsOf direction) (meant opening)) }
         ensures unspent { OnOk result (self.new.progress.fault ≡ None) }
     {
         match opening {
@@ -135,7 +178,7 @@ impl<'a, S: Source> WireReader<'a, S> {
                     sequence,
                 })
             }
-            FirstWord::OfOld(length) => self.old_rest(alloc, length),
+            FirstWord::OfOld(length) => self.old_rest(alloc, direction, length),
         }
     }
 
@@ -165,23 +208,28 @@ impl<'a, S: Source> WireReader<'a, S> {
         let start = self.progress.place;
         match self.text(alloc)? {
             Some(name) => Ok(name),
-            None => Err(self.spent(WireFault::BadWire(5, start + 4))),
+            None => Err(self.spent(WireFault::BadWire(bad_wire::NAME, start + 4))),
         }
     }
 
     // In the old form, a name of so many bytes, a kind and a sequence id.
-    fn old_rest(&mut self, alloc: Global, length: usize) -> Result<Head, WireFault>
+    fn old_rest(
+        &mut self,
+        alloc: Global,
+        direction: Direction,
+        length: usize,
+    ) -> Result<Head, WireFault>
         requires unspent { self.old.progress.fault ≡ None }
         requires bounded { length ≤ TEXT_LIMIT }
         ensures same_source { self.new.source.ghost_name ≡ self.old.source.ghost_name }
         ensures later { S.faults self.old.source.now ≤ S.faults self.new.source.now }
         ensures cause { self.old.progress.fault ≡ None → IsErrOf result WireFault.ReadFault → Rose (S.faults self.old.source.now) (S.faults self.new.source.now) }
         ensures stays { StaysBut WireFault.ReadFault result (S.faults self.old.source.now) (S.faults self.new.source.now) }
-        ensures reads { Reads (S.left self.old.source.now) (S.left self.new.source.now) self.old.progress self.new.progress result (IsOldRest Asks length) (StopsOldRest Asks length) }
+        ensures reads { Reads (S.left self.old.source.now) (S.left self.new.source.now) self.old.progress self.new.progress result (IsOldRest (KindsOf direction) length) (StopsOldRest (KindsOf direction) length) }
         ensures unspent { OnOk result (self.new.progress.fault ≡ None) }
     {
         let name = self.old_name(alloc, length)?;
-        let (kind, sequence) = self.kinded()?;
+        let (kind, sequence) = self.kinded(direction)?;
         Ok(Head {
             name,
             kind,
@@ -204,56 +252,56 @@ impl<'a, S: Source> WireReader<'a, S> {
         let bytes = self.body(alloc, length)?;
         match Text::from_utf8(bytes) {
             Some(name) => Ok(name),
-            None => Err(self.spent(WireFault::BadWire(5, start))),
+            None => Err(self.spent(WireFault::BadWire(bad_wire::NAME, start))),
         }
     }
 
     // In the old form, a kind and a sequence id.
-    fn kinded(&mut self) -> Result<(u8, i32), WireFault>
+    fn kinded(&mut self, direction: Direction) -> Result<(u8, i32), WireFault>
         ensures same_source { self.new.source.ghost_name ≡ self.old.source.ghost_name }
         ensures later { S.faults self.old.source.now ≤ S.faults self.new.source.now }
         ensures cause { self.old.progress.fault ≡ None → IsErrOf result WireFault.ReadFault → Rose (S.faults self.old.source.now) (S.faults self.new.source.now) }
         ensures stays { StaysBut WireFault.ReadFault result (S.faults self.old.source.now) (S.faults self.new.source.now) }
-        ensures reads { Reads (S.left self.old.source.now) (S.left self.new.source.now) self.old.progress self.new.progress result (IsKinded Asks) (StopsKinded Asks) }
+        ensures reads { Reads (S.left self.old.source.now) (S.left self.new.source.now) self.old.progress self.new.progress result (IsKinded (KindsOf direction)) (StopsKinded (KindsOf direction)) }
         ensures unspent { OnOk result (self.new.progress.fault ≡ None) }
     {
-        let kind = self.kind()?;
+        let kind = self.kind(direction)?;
         let sequence = self.int()?;
         Ok((kind, sequence))
     }
 
     // In the old form, the kind of a message.
-    fn kind(&mut self) -> Result<u8, WireFault>
+    fn kind(&mut self, direction: Direction) -> Result<u8, WireFault>
         ensures same_source { self.new.source.ghost_name ≡ self.old.source.ghost_name }
         ensures later { S.faults self.old.source.now ≤ S.faults self.new.source.now }
         ensures cause { self.old.progress.fault ≡ None → IsErrOf result WireFault.ReadFault → Rose (S.faults self.old.source.now) (S.faults self.new.source.now) }
         ensures stays { StaysBut WireFault.ReadFault result (S.faults self.old.source.now) (S.faults self.new.source.now) }
-        ensures reads { Reads (S.left self.old.source.now) (S.left self.new.source.now) self.old.progress self.new.progress result (IsKind Asks) (StopsKind Asks) }
+        ensures reads { Reads (S.left self.old.source.now) (S.left self.new.source.now) self.old.progress self.new.progress result (IsKind (KindsOf direction)) (StopsKind (KindsOf direction)) }
         ensures unspent { OnOk result (self.new.progress.fault ≡ None) }
     {
         let start = self.progress.place;
         let mut buf = [0; 1];
         self.exact(&mut buf)?;
-        self.judged(kind_of(&buf, start))
+        self.judged(kind_of(direction, &buf, start))
     }
 }
 
 // What the first word of a message, at this place, tells.
-fn opening_of(word: &[u8], start: u64) -> Result<FirstWord, WireFault>
+fn opening_of(direction: Direction, word: &[u8], start: u64) -> Result<FirstWord, WireFault>
     requires four { length word.now ≡ 4 }
     requires place { start ≤ SESSION_END }
-    ensures judged { Judges start word.now result (λ found. IsOpening Asks (meant found)) (StopsOpening Asks) }
+    ensures judged { Judges start word.now result (λ found. IsOpening (KindsOf direction) (meant found)) (StopsOpening (KindsOf direction)) }
     ensures bounded { IfOk result IsBounded }
 {
     if is_strict(word) {
-        if asks(word[3]) {
+        if is_kind(direction, word[3]) {
             return Ok(FirstWord::OfStrict(word[3]));
         }
-        return Err(WireFault::BadWire(2, start + 3));
+        return Err(WireFault::BadWire(bad_wire::KIND, start + 3));
     }
     let n = int_of(word);
     if n < 0 {
-        return Err(WireFault::BadWire(1, start));
+        return Err(WireFault::BadWire(bad_wire::VERSION, start));
     }
     let n = n as usize;
     if n > TEXT_LIMIT {
@@ -263,21 +311,24 @@ fn opening_of(word: &[u8], start: u64) -> Result<FirstWord, WireFault>
 }
 
 // The kind that a byte at this place spells.
-fn kind_of(bytes: &[u8], start: u64) -> Result<u8, WireFault>
+fn kind_of(direction: Direction, bytes: &[u8], start: u64) -> Result<u8, WireFault>
     requires { length bytes.now ≡ 1 }
-    ensures { Judges start bytes.now result (IsKind Asks) (StopsKind Asks) }
+    ensures { Judges start bytes.now result (IsKind (KindsOf direction)) (StopsKind (KindsOf direction)) }
 {
-    if asks(bytes[0]) {
+    if is_kind(direction, bytes[0]) {
         return Ok(bytes[0]);
     }
-    Err(WireFault::BadWire(2, start))
+    Err(WireFault::BadWire(bad_wire::KIND, start))
 }
 
-// Whether this is the kind of a message that asks.
-fn asks(kind: u8) -> bool
-    ensures { IsTrue result ↔ Asks kind }
+// Whether a message of this kind goes in this direction.
+fn is_kind(direction: Direction, kind: u8) -> bool
+    ensures { IsTrue result ↔ KindsOf direction kind }
 {
-    kind == 1 || kind == 4
+    match direction {
+        Direction::Requests => kind == message_kind::CALL || kind == message_kind::ONEWAY,
+        Direction::Replies => kind == message_kind::REPLY || kind == message_kind::EXCEPTION,
+    }
 }
 
 // Whether four bytes are a word of the strict form.

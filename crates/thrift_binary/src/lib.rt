@@ -1,6 +1,7 @@
 //! Apache Thrift's binary protocol (TBinaryProtocol) over any source and sink of bytes.
 #![tactic(auto)]
 
+pub mod bad_wire;
 mod collections;
 mod fault;
 mod fill;
@@ -9,16 +10,18 @@ mod head;
 mod heads;
 mod laws;
 mod limits;
+pub mod message_kind;
 pub mod numbers;
 mod progress;
 mod reader;
 mod skipping;
 mod spelling;
 mod texts;
+pub mod type_code;
 mod writer;
 
 pub use fault::{SendFault, WireFault};
-pub use head::Head;
+pub use head::{Direction, Head};
 pub use laws::{
     a_text_reads_one_way, cutting_changes_nothing, every_text_has_an_ending,
     no_spelling_begins_another,

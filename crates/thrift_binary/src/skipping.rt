@@ -6,7 +6,7 @@ ghost use Rattle.thrift_binary.specs.Taking.{Reads};
 ghost use Rattle.thrift_binary.specs.Tree.{Elements, Entries, Fields, Items, Pairs, Wire, elements_count, entries_count};
 ghost use Rattle.thrift_binary.specs.Wire.{AreElements, AreEntries, IsCode, IsElementType, IsNested, IsString, IsStruct, IsWire, StopsElements, StopsEntries, StopsFields, StopsListBy, StopsMapBy, StopsPlain, StopsShort, StopsString, StopsWire};
 
-use crate::{WireFault, WireReader};
+use crate::{WireFault, WireReader, type_code};
 use hms_outside::Source;
 
 // Through how large a buffer the bytes of a text are passed.
@@ -50,8 +50,8 @@ impl<'a, S: Source> WireReader<'a, S> {
         ensures unspent { OnOk result (self.new.progress.fault ≡ None) }
     {
         match ty {
-            12 => self.skip_fields(),
-            13 => self.skip_map(),
+            type_code::STRUCT => self.skip_fields(),
+            type_code::MAP => self.skip_map(),
             _ => self.skip_list(),
         }
     }
@@ -155,27 +155,27 @@ impl<'a, S: Source> WireReader<'a, S> {
         ensures unspent { OnOk result (self.new.progress.fault ≡ None) }
     {
         match ty {
-            2 => {
+            type_code::BOOL => {
                 self.flag()?;
                 Ok(())
             }
-            3 => {
+            type_code::BYTE => {
                 self.byte()?;
                 Ok(())
             }
-            4 => {
+            type_code::DOUBLE => {
                 self.eight()?;
                 Ok(())
             }
-            6 => {
+            type_code::I16 => {
                 self.short()?;
                 Ok(())
             }
-            8 => {
+            type_code::I32 => {
                 self.int()?;
                 Ok(())
             }
-            10 => {
+            type_code::I64 => {
                 self.long()?;
                 Ok(())
             }
@@ -225,5 +225,8 @@ impl<'a, S: Source> WireReader<'a, S> {
 fn is_nested(ty: u8) -> bool
     ensures { IsTrue result ↔ IsNested ty }
 {
-    matches!(ty, 12 | 13 | 14 | 15)
+    matches!(
+        ty,
+        type_code::STRUCT | type_code::MAP | type_code::SET | type_code::LIST
+    )
 }

@@ -7,7 +7,7 @@ ghost use Rattle.thrift_binary.specs.Taking.{Judges, Reads};
 ghost use Rattle.thrift_binary.specs.Wire.{IsBody, IsLength, IsString, IsText, StopsLength, StopsShort, StopsString};
 
 use crate::numbers::int_of;
-use crate::{WireFault, WireReader};
+use crate::{WireFault, WireReader, bad_wire};
 use cat_values::{TEXT_LIMIT, Text};
 use hms_outside::Source;
 use std::alloc::Global;
@@ -108,7 +108,7 @@ fn length_of(bytes: &[u8], start: u64) -> Result<usize, WireFault>
 {
     let n = int_of(bytes);
     if n < 0 {
-        return Err(WireFault::BadWire(3, start));
+        return Err(WireFault::BadWire(bad_wire::NEGATIVE, start));
     }
     let n = n as usize;
     if n > TEXT_LIMIT {

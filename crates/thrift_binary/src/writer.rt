@@ -4,10 +4,11 @@ ghost use Rattle.std.specs.Prelude.{◌≡◌, ◌<◌, ◌≤◌, ◌^◌, ◌+
 ghost use Rattle.hms_outside.specs.Causes.{Rose, StaysBut};
 ghost use Rattle.hms_outside.specs.Told.{Goes, Grew, Sent};
 ghost use Rattle.cat_values.specs.Gathering.{Gathers};
+ghost use Rattle.thrift_binary.specs.Codes.{stop_code};
 ghost use Rattle.thrift_binary.specs.Strict.{field_bytes, flag_bytes, head_bytes, list_bytes, map_bytes};
 ghost use Rattle.thrift_binary.specs.Wire.{byte_bytes, int_bytes, long_bytes, short_bytes, text_bytes};
 
-use crate::{Head, SendFault};
+use crate::{Head, SendFault, type_code};
 use cat_values::{NoMemory, Text};
 use hms_outside::{Outage, Sink, send_all};
 use std::alloc::Global;
@@ -119,9 +120,9 @@ impl WireWriter {
 
     /// The end of a struct.
     pub fn stop(&mut self) -> Result<(), NoMemory>
-        ensures { Gathers self.old self.new result (0 ∷ []) }
+        ensures { Gathers self.old self.new result (stop_code ∷ []) }
     {
-        self.code(0)
+        self.code(type_code::STOP)
     }
 
     /// The strict head of a message.

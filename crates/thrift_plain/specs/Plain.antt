@@ -1,5 +1,6 @@
 -- What the plain decoder gives: each message with the pieces of its argument struct one behind the other.
 use Rattle.std.specs.Prelude.{◌≡◌, ◌==◌, ℕ, List, [], ◌∷◌, ◌++◌, map, ℤ, if◌then◌else◌}
+use Rattle.thrift_binary.specs.Codes.{byte_code, i16_code, i32_code, struct_code}
 use Rattle.thrift_binary.specs.Tree.{Wire, Flag, Number, Eight, Bytes, Struct, Items, Pairs, Fields, NoFields, Field, Elements, NoElements, Element, Entries, NoEntries, Entry, elements_count, entries_count}
 use Rattle.thrift_binary.specs.Messages.{Message, Ending, Boundary, Truncated, Bad_at, Large_at, Spells}
 use Rattle.thrift_plain.specs.declared.plain_messages.PlainEnd.{PlainEnd}
@@ -10,7 +11,7 @@ use Rattle.thrift_plain.specs.declared.plain_messages.Token.TheVariants as token
 
 -- a number, by its type
 abbrev pub number_token : ℕ → ℤ → Token
-number_token ty n = if ty == 3 then token.Byte n else (if ty == 6 then token.Short n else (if ty == 8 then token.Int n else token.Long n))
+number_token ty n = if ty == byte_code then token.Byte n else (if ty == i16_code then token.Short n else (if ty == i32_code then token.Int n else token.Long n))
 
 -- the pieces of a value of this type
 abbrev mutual
@@ -37,7 +38,7 @@ abbrev mutual
 
 -- a message with its argument struct in pieces
 abbrev pub flat : Message → PlainMessage
-flat m = record { strict = m.strict; head = m.head; arguments = wire_tokens 12 (Struct m.arguments) }
+flat m = record { strict = m.strict; head = m.head; arguments = wire_tokens struct_code (Struct m.arguments) }
 
 -- an end, as the relation has it
 abbrev pub ending_of : PlainEnd → Ending

@@ -9,8 +9,8 @@ ghost use Rattle.thrift_plain.specs.PlainReading.{Takes, opening_of};
 use crate::plain_reader::{Halt, PlainReader};
 use cat_values::{NoMemory, TEXT_LIMIT, Text};
 use std::alloc::Global;
-use thrift_binary::Head;
 use thrift_binary::numbers::int_of;
+use thrift_binary::{Head, bad_wire, message_kind};
 
 /// What the first word of a message tells.
 pub(crate) enum Opening {
@@ -31,11 +31,11 @@ impl<'a> PlainReader<'a> {
             if asks(word[3]) {
                 return Ok(Opening::Strict(word[3]));
             }
-            return Err(Halt::Bad(2, left - 3));
+            return Err(Halt::Bad(bad_wire::KIND, left - 3));
         }
         let n = int_of(word);
         if n < 0 {
-            return Err(Halt::Bad(1, left));
+            return Err(Halt::Bad(bad_wire::VERSION, left));
         }
         let n = n as usize;
         if n > TEXT_LIMIT {
@@ -52,7 +52,7 @@ impl<'a> PlainReader<'a> {
         let body = self.string()?;
         match text_of(self.alloc, body)? {
             Some(name) => Ok(name),
-            None => Err(Halt::Bad(5, left - 4)),
+            None => Err(Halt::Bad(bad_wire::NAME, left - 4)),
         }
     }
 
@@ -74,7 +74,7 @@ impl<'a> PlainReader<'a> {
         let body = self.take(n)?;
         match text_of(self.alloc, body)? {
             Some(name) => Ok(name),
-            None => Err(Halt::Bad(5, left)),
+            None => Err(Halt::Bad(bad_wire::NAME, left)),
         }
     }
 
@@ -87,7 +87,7 @@ impl<'a> PlainReader<'a> {
         if asks(kind) {
             return Ok(kind);
         }
-        Err(Halt::Bad(2, left))
+        Err(Halt::Bad(bad_wire::KIND, left))
     }
 
     // In the old form: the kind and the sequence id.
@@ -148,7 +148,7 @@ fn is_strict(word: &[u8]) -> bool
 fn asks(kind: u8) -> bool
     ensures { IsTrue result ↔ Asks kind }
 {
-    matches!(kind, 1 | 4)
+    matches!(kind, message_kind::CALL | message_kind::ONEWAY)
 }
 
 // The text with these bytes, or nothing where they aren't UTF-8.

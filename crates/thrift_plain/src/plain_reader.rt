@@ -7,8 +7,8 @@ ghost use Rattle.thrift_binary.specs.Wire.{IsBody, IsCode, IsCount, IsElementTyp
 
 use cat_values::{NoMemory, TEXT_LIMIT};
 use std::alloc::Global;
-use thrift_binary::COUNT_LIMIT;
 use thrift_binary::numbers::{int_of, short_of};
+use thrift_binary::{COUNT_LIMIT, bad_wire, type_code};
 
 /// Why decoding stops. Bytes that are left are counted, since a reader knows no place.
 #[derive(Clone, Copy, Debug, PartialEq, Eq)]
@@ -80,7 +80,7 @@ impl<'a> PlainReader<'a> {
         let left = self.rest.len();
         let n = self.int()?;
         if n < 0 {
-            return Err(Halt::Bad(3, left));
+            return Err(Halt::Bad(bad_wire::NEGATIVE, left));
         }
         let n = n as usize;
         if n > TEXT_LIMIT {
@@ -103,13 +103,13 @@ impl<'a> PlainReader<'a> {
     {
         let left = self.rest.len();
         let ty = self.byte()?;
-        if ty == 0 {
+        if ty == type_code::STOP {
             return Ok(None);
         }
         if is_code(ty) {
             return Ok(Some(ty));
         }
-        Err(Halt::Bad(4, left))
+        Err(Halt::Bad(bad_wire::TYPE, left))
     }
 
     // The type and the id of a field, or the end of a struct.
@@ -133,7 +133,7 @@ impl<'a> PlainReader<'a> {
         let word = self.rest.len();
         let n = self.int()?;
         if n < 0 {
-            return Err(Halt::Bad(3, word));
+            return Err(Halt::Bad(bad_wire::NEGATIVE, word));
         }
         let n = n as u32;
         if n > COUNT_LIMIT {
@@ -153,7 +153,7 @@ impl<'a> PlainReader<'a> {
         if may_follow(ty, count) {
             return Ok((ty, count));
         }
-        Err(Halt::Bad(4, of))
+        Err(Halt::Bad(bad_wire::TYPE, of))
     }
 
     // The head of a map. Its types are looked at only where pairs follow.
@@ -170,9 +170,9 @@ impl<'a> PlainReader<'a> {
             if may_follow(value, count) {
                 return Ok((key, value, count));
             }
-            return Err(Halt::Bad(4, behind));
+            return Err(Halt::Bad(bad_wire::TYPE, behind));
         }
-        Err(Halt::Bad(4, left))
+        Err(Halt::Bad(bad_wire::TYPE, left))
     }
 }
 
@@ -187,5 +187,18 @@ fn may_follow(ty: u8, count: u32) -> bool
 fn is_code(ty: u8) -> bool
     ensures { IsTrue result ↔ IsCode ty }
 {
-    matches!(ty, 2 | 3 | 4 | 6 | 8 | 10 | 11 | 12 | 13 | 14 | 15)
+    matches!(
+        ty,
+        type_code::BOOL
+            | type_code::BYTE
+            | type_code::DOUBLE
+            | type_code::I16
+            | type_code::I32
+            | type_code::I64
+            | type_code::STRING
+            | type_code::STRUCT
+            | type_code::MAP
+            | type_code::SET
+            | type_code::LIST
+    )
 }

@@ -10,7 +10,7 @@ use crate::plain_reader::{Halt, PlainReader};
 use crate::{PlainEnd, PlainMessage, PlainMessages, Tokens};
 use cat_values::NoMemory;
 use std::alloc::Global;
-use thrift_binary::{DEPTH_LIMIT, MESSAGE_LIMIT, SESSION_END};
+use thrift_binary::{DEPTH_LIMIT, MESSAGE_LIMIT, SESSION_END, type_code};
 
 /// What stands next in a text.
 enum Next {
@@ -78,7 +78,7 @@ impl<'a> PlainReader<'a> {
     {
         let (strict, head) = self.head()?;
         let mut arguments = Tokens::new(self.alloc);
-        self.value(&mut arguments, 12, DEPTH_LIMIT)?;
+        self.value(&mut arguments, type_code::STRUCT, DEPTH_LIMIT)?;
         Ok(PlainMessage {
             strict,
             head,

@@ -9,6 +9,7 @@ use crate::plain_reader::{Halt, PlainReader};
 use crate::{Token, Tokens};
 use cat_values::Bytes;
 use thrift_binary::numbers::{byte_of, flag_of, int_of, long_of, short_of};
+use thrift_binary::type_code;
 
 impl<'a> PlainReader<'a> {
     // A value that holds no other.
@@ -18,12 +19,12 @@ impl<'a> PlainReader<'a> {
         ensures { Takes self.old.rest.now self.new.rest.now result (IsPlain ty) (StopsPlain ty) }
     {
         match ty {
-            2 => Ok(Token::Flag(flag_of(self.take(1)?))),
-            3 => Ok(Token::Byte(byte_of(self.take(1)?))),
-            4 => Ok(Token::Eight(eight_of(self.take(8)?))),
-            6 => Ok(Token::Short(short_of(self.take(2)?))),
-            8 => Ok(Token::Int(int_of(self.take(4)?))),
-            10 => Ok(Token::Long(long_of(self.take(8)?))),
+            type_code::BOOL => Ok(Token::Flag(flag_of(self.take(1)?))),
+            type_code::BYTE => Ok(Token::Byte(byte_of(self.take(1)?))),
+            type_code::DOUBLE => Ok(Token::Eight(eight_of(self.take(8)?))),
+            type_code::I16 => Ok(Token::Short(short_of(self.take(2)?))),
+            type_code::I32 => Ok(Token::Int(int_of(self.take(4)?))),
+            type_code::I64 => Ok(Token::Long(long_of(self.take(8)?))),
             _ => {
                 let body = self.string()?;
                 Ok(Token::Text(Bytes::from_slice(self.alloc, body)?))
@@ -55,8 +56,8 @@ impl<'a> PlainReader<'a> {
             return Err(Halt::Large(self.rest.len()));
         }
         match ty {
-            12 => self.fields(tokens, depth - 1),
-            13 => self.map(tokens, depth - 1),
+            type_code::STRUCT => self.fields(tokens, depth - 1),
+            type_code::MAP => self.map(tokens, depth - 1),
             _ => self.list(tokens, depth - 1),
         }
     }
@@ -138,7 +139,10 @@ impl<'a> PlainReader<'a> {
 fn is_nested(ty: u8) -> bool
     ensures { IsTrue result ↔ IsNested ty }
 {
-    matches!(ty, 12 | 13 | 14 | 15)
+    matches!(
+        ty,
+        type_code::STRUCT | type_code::MAP | type_code::SET | type_code::LIST
+    )
 }
 
 // Eight bytes.

@@ -6,7 +6,7 @@ use cat_values::Text;
 use std::alloc::Global;
 use std::fmt::Debug;
 use table_cases::{Answers, Unable, bytes_of};
-use thrift_binary::{Head, WireFault, WireReader};
+use thrift_binary::{Direction, Head, WireFault, WireReader, type_code};
 
 /// What calls answer, however the bytes are cut. Behind values that were read one byte more stands,
 /// which is read next; a fault is told again.
@@ -86,6 +86,8 @@ fn told(alloc: Global, reader: &mut Reader<'_, '_>, call: &str) -> Result<String
         "text" => told_text(alloc, &reader.text(alloc)),
         "head" => told_head(alloc, &reader.head(alloc)),
         "message" => told_head(alloc, &reader.message(alloc)),
+        "reply" => told_head(alloc, &reader.head_of(alloc, Direction::Replies)),
+        "reply_message" => told_head(alloc, &reader.message_of(alloc, Direction::Replies)),
         "field" => told_plain(alloc, &reader.field()),
         "list" => told_plain(alloc, &reader.list()),
         "map" => told_plain(alloc, &reader.map()),
@@ -123,7 +125,7 @@ fn closed(reader: &mut Reader<'_, '_>) -> Result<(), WireFault> {
     if reader.field()?.is_none() {
         reader.close();
     }
-    reader.skip(12)
+    reader.skip(type_code::STRUCT)
 }
 
 // The caller has no memory to keep what was read.

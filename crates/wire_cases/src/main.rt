@@ -26,7 +26,8 @@ fn run_calls(rt: &(impl Files + Print + AllocGlobal)) -> Result<(), Unable> {
     run_table(rt, "reader_values", &Calls)?;
     run_table(rt, "reader_heads", &Calls)?;
     run_table(rt, "reader_passed", &Calls)?;
-    run_table(rt, "reader_messages", &Calls)
+    run_table(rt, "reader_messages", &Calls)?;
+    run_table(rt, "reader_replies", &Calls)
 }
 
 // Whole sessions, and what is written.

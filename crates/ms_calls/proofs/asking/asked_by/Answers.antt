@@ -1,21 +1,12 @@
-use Rattle.std.proofs.Common.{◌≡◌, ◌∙◌, Some, ap, sym, rules}
-use Rattle.ms_calls.specs.declared.method.Method.TheVariants as method
-use Rattle.ms_calls.specs.Asked.{asked_by}
-use Rattle.ms_structs.proofs.Getting.{gets_weaker}
-use Rattle.ms_calls.proofs.ByTree.{user_asked, db_asked, name_asked}
+use Rattle.ms_structs.proofs.Getting.{gets_unspent}
+use Rattle.ms_calls.proofs.CanBeReplied.{read_fits, fits_plain, fits_client}
 use Rattle.ms_calls.proofs.asking.asked_by.Goals as goal
 
-pub returns-in-Some-SetUgi-clause-reads : goal.returns-in-Some-SetUgi-clause-reads
-returns-in-Some-SetUgi-clause-reads g c =
-    let m : c.args.method ≡ Some method.SetUgi = search rules in
-    gets_weaker _ _ _ _ _ _ _ _ _ (λ v asked says. says ∙ user_asked v ∙ ap (λ x. asked_by x v) (sym m)) c.read_arguments.ensures.reads
+pub returns-clause-unspent : goal.returns-clause-unspent
+returns-clause-unspent g c = gets_unspent _ _ _ _ c.read_asked.result _ _ _ c.read_asked.ensures.reads
 
-pub returns-in-Some-CreateDatabase-clause-reads : goal.returns-in-Some-CreateDatabase-clause-reads
-returns-in-Some-CreateDatabase-clause-reads g c =
-    let m : c.args.method ≡ Some method.CreateDatabase = search rules in
-    gets_weaker _ _ _ _ _ _ _ _ _ (λ v asked says. says ∙ db_asked v ∙ ap (λ x. asked_by x v) (sym m)) c.read_arguments-in-Some-CreateDatabase.ensures.reads
+pub returns-clause-plain : goal.returns-clause-plain
+returns-clause-plain g c = fits_plain _ c.read_asked.result (read_fits _ _ _ _ _ c.read_asked.result _ _ c.read_asked.ensures.reads)
 
-pub returns-in-Some-GetDatabase-clause-reads : goal.returns-in-Some-GetDatabase-clause-reads
-returns-in-Some-GetDatabase-clause-reads g c =
-    let m : c.args.method ≡ Some method.GetDatabase = search rules in
-    gets_weaker _ _ _ _ _ _ _ _ _ (λ v asked says. says ∙ name_asked v ∙ ap (λ x. asked_by x v) (sym m)) c.read_arguments-in-Some-GetDatabase.ensures.reads
+pub returns-clause-client : goal.returns-clause-client
+returns-clause-client g c = fits_client _ c.read_asked.result (read_fits _ _ _ _ _ c.read_asked.result _ _ c.read_asked.ensures.reads)

@@ -1,4 +1,5 @@
-use Rattle.std.proofs.Common.{inl, refl}
+use Rattle.std.proofs.Common.{ap, inl, refl, ◌∙◌}
+use Rattle.ms_calls.specs.Methods.{method_named}
 use Rattle.std.proofs.lemmas.Result.{err_from_is_err_and}
 use Rattle.thrift_binary.specs.Messages.{Asks, StopsMessage}
 use Rattle.thrift_binary.proofs.Reading.{fault_again}
@@ -16,4 +17,4 @@ returns-in_err-asked-clause-reads g c =
     rw (p.1, p.2) (message_failed _ _ _ _ _ _ c.in-Some.head c.in_err-asked.field-0.0 refl (rw c.in-Some.is at c.in_ok-head.ensures.reads) c.in_err-asked.ensures.reads)
 
 pub returns-clause-reads : goal.returns-clause-reads
-returns-clause-reads g c = message_came _ _ _ _ _ _ c.in-Some.head c.in_ok-asked.asked refl (rw c.in-Some.is at c.in_ok-head.ensures.reads) c.in_ok-asked.ensures.reads
+returns-clause-reads g c = message_came _ _ _ _ _ _ c.in-Some.head c.method_named-method.result c.in_ok-asked.asked (c.method_named-method.ensures ∙ ap method_named c.as_str.ensures.bytes) refl (rw c.in-Some.is at c.in_ok-head.ensures.reads) c.in_ok-asked.ensures.reads
