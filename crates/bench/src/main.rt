@@ -17,6 +17,9 @@
 //!   newest ones are polled so often; the number of the newest event, or a sum of those polled.
 //! - `lock THREADS TURNS`: each thread takes so many turns under the lock; how many turns were
 //!   counted.
+//! - `journal append COUNT`: in the folder that it runs in a journal is made anew, and so many payloads of
+//!   200 bytes are appended; their number.
+//! - `journal open|read`: that journal is opened, or its file read; how many payloads, or bytes, it has.
 //!
 //! The word `all` asks for each of them once, and little of it.
 #![tactic(auto)]
@@ -24,6 +27,7 @@
 mod counter;
 mod events;
 mod filter;
+mod journal;
 mod lock;
 mod names;
 mod records;
@@ -35,8 +39,9 @@ mod work;
 
 use std::alloc::Global;
 use std::env;
+use std::fs::File;
 use std::process::ExitCode;
-use std::rt::Env;
+use std::rt::{Env, Files};
 use std::sync::Wait;
 use std::thread::Threads;
 use stop::Stop;
@@ -54,7 +59,9 @@ fn main(rt: HostRuntime) -> ExitCode {
 }
 
 // Does what the words ask for.
-fn run<R: Env + Print + Alloc<A = Global> + Threads + Wait + Sync>(rt: &R) -> Result<(), Stop> {
+fn run<R: Env + Files<File = File> + Print + Alloc<A = Global> + Threads + Wait + Sync>(
+    rt: &R,
+) -> Result<(), Stop> {
     let words = words(rt)?;
     if words.len() == 1 && words[0].as_str() == "all" {
         return perform_each(rt);
@@ -75,15 +82,18 @@ fn words(rt: &(impl Env + Alloc<A = Global>)) -> Result<Vec<String>, Stop> {
 }
 
 // Does each piece of work once, and little of it.
-fn perform_each<R: Print + Alloc<A = Global> + Threads + Wait + Sync>(rt: &R) -> Result<(), Stop> {
+fn perform_each<R: Files<File = File> + Print + Alloc<A = Global> + Threads + Wait + Sync>(
+    rt: &R,
+) -> Result<(), Stop> {
     for work in &EACH {
         perform(rt, *work)?;
     }
+    journal::remove(rt);
     Ok(())
 }
 
 // Does a piece of work, and prints its line.
-fn perform<R: Print + Alloc<A = Global> + Threads + Wait + Sync>(
+fn perform<R: Files<File = File> + Print + Alloc<A = Global> + Threads + Wait + Sync>(
     rt: &R,
     work: Work,
 ) -> Result<(), Stop> {
@@ -112,6 +122,9 @@ fn perform<R: Print + Alloc<A = Global> + Threads + Wait + Sync>(
             polls,
         } => events::poll(alloc, kept, polls, newest),
         Work::Lock { threads, turns } => lock::take_turns(rt, alloc, threads, turns),
+        Work::Append { count } => journal::append(rt, alloc, count),
+        Work::Open => journal::open(rt, alloc),
+        Work::ReadFile => journal::read(rt, alloc),
     }?;
     println!(rt; "{sum}")?;
     Ok(())

@@ -50,10 +50,15 @@ pub enum Work {
         threads: u8,
         turns: u32,
     },
+    Append {
+        count: u32,
+    },
+    Open,
+    ReadFile,
 }
 
 /// Each piece of work once, and little of it.
-pub const EACH: [Work; 14] = [
+pub const EACH: [Work; 17] = [
     Work::Make { count: 3 },
     Work::Vals { count: 3 },
     Work::Spec { count: 3 },
@@ -86,6 +91,9 @@ pub const EACH: [Work; 14] = [
         threads: 2,
         turns: 50,
     },
+    Work::Append { count: 3 },
+    Work::Open,
+    Work::ReadFile,
 ];
 
 /// The piece of work that the words ask for.
@@ -101,6 +109,7 @@ pub fn named_work(words: &[String]) -> Option<Work> {
         "wire_write" => wire_write(words),
         "events" => events(words),
         "lock" => lock(words),
+        "journal" => journal(words),
         _ => None,
     }
 }
@@ -192,6 +201,20 @@ fn lock(words: &[String]) -> Option<Work> {
         threads: threads.as_str().parse().ok()?,
         turns: number(turns)?,
     })
+}
+
+fn journal(words: &[String]) -> Option<Work> {
+    let [word, count @ ..] = words else {
+        return None;
+    };
+    match (word.as_str(), count) {
+        ("append", [count]) => Some(Work::Append {
+            count: number(count)?,
+        }),
+        ("open", []) => Some(Work::Open),
+        ("read", []) => Some(Work::ReadFile),
+        _ => None,
+    }
 }
 
 fn number(word: &String) -> Option<u32> {

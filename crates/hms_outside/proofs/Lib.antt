@@ -1,2 +1,5 @@
 pub mod Given
+pub mod Images
+pub mod Moves
+pub mod Past
 pub mod SinkLemmas

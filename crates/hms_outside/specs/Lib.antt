@@ -4,3 +4,4 @@ pub mod Disks
 pub mod Folders
 pub mod Clocks
 pub mod Memory
+pub mod Laws

@@ -1,8 +1,9 @@
 -- What contracts see of the memory forms.
-use Rattle.std.specs.Prelude.{◌≡◌, ℕ, ◌+◌, ◌-◌, ◌^◌, ◌==◌, nat_lt, Bool, true, false, max, min, length, List, Option, None, Some, if◌then◌else◌, Result, IsErrOf, ◌↔◌}
+use Rattle.std.specs.Prelude.{◌≡◌, ℕ, ◌+◌, ◌-◌, ◌^◌, ◌==◌, nat_lt, Bool, true, false, max, min, length, List, [], ◌∷◌, Option, None, Some, if◌then◌else◌, Result, IsErrOf, ◌↔◌}
 use Rattle.std.specs.List.{list_any}
 use Rattle.cat_values.specs.declared.text.TheConstants.{TEXT_LIMIT}
 use Rattle.hms_outside.specs.Told.{Held}
+use Rattle.hms_outside.specs.Disks.{Lies}
 use Rattle.hms_outside.specs.declared.outage.Outage.{Outage}
 use Rattle.hms_outside.specs.declared.outage.Outage.TheVariants.{Failed, NoMemory}
 
@@ -49,10 +50,20 @@ pub record Store : Type 0 where
   pub held : Held
   pub plan : Plan
 
--- a disk over memory: what a read gives
-pub record Platter : Type 0 where
-  pub held : List ℕ
+-- how a disk lies, of its parts
+abbrev pub lies_of : List ℕ → List ℕ → List (ℕ × ℕ) → Lies
+lies_of held synced dirty = record { held = held; synced = synced; dirty = dirty }
+
+-- a disk over memory: how it lies, how it lay after each call that may have changed that, and its plan
+pub record Drum : Type 0 where
+  pub lies : Lies
+  pub past : List Lies
   pub plan : Plan
+
+-- what a log of states lists
+abbrev pub states : List (Lies × Unit {0}) → List Lies
+states [] = []
+states (x ∷ xs) = x.0 ∷ states xs
 
 -- a folder over memory: its files, in rising order of their names
 pub record Shelf : Type 0 where

@@ -2,10 +2,11 @@
 
 use cat_values::Bytes;
 use hms_outside::{
-    Clock, Disk, Folder, MemClock, MemDisk, MemFolder, MemSink, MemSource, Outage, Sink, Source,
-    StreamSink, StreamSource, SystemClock, send_all,
+    Clock, CrashPick, Disk, FileDisk, Folder, MemClock, MemDisk, MemFolder, MemSink, MemSource,
+    Outage, Sink, Source, StreamSink, StreamSource, SystemClock, send_all,
 };
 use std::cell::Cell;
+use std::fs::remove_file;
 use std::io::{self, Read, Write};
 use std::test::Fail;
 use std::time::{self, Duration};
@@ -70,6 +71,61 @@ fn a_disk_keeps_what_was_written(rt: HostRuntime) -> Result<(), Fail> {
     assert_eq!(rt; disk.read_at(0, &mut buf), Ok(5));
     assert!(rt; buf.starts_with(b"a-XYZ"));
     assert_eq!(rt; disk.read_at(9, &mut buf), Ok(0));
+    Ok(())
+}
+
+// The first bytes of a disk after a crash, which fails at no call.
+fn crashed(disk: &MemDisk, pick: CrashPick) -> Result<[u8; 4], Fail> {
+    let mut left = disk.crash(pick)?;
+    let mut buf = [0; 4];
+    if left.read_at(0, &mut buf).is_err() || left.sync().is_err() {
+        return Err(Fail::from("a disk after a crash fails"));
+    }
+    Ok(buf)
+}
+
+#[test]
+fn a_crash_picks_what_was_not_synced(rt: HostRuntime) -> Result<(), Fail> {
+    let alloc = rt.alloc();
+    let mut disk = MemDisk::new(alloc, vec![in alloc; 3, 4, 5]?);
+    assert_eq!(rt; disk.write_at(0, b"abc"), Ok(()));
+    assert_eq!(rt; disk.sync(), Ok(()));
+    assert_eq!(rt; disk.write_at(1, b"XY"), Ok(()));
+    assert_eq!(rt; disk.sync(), Err(Outage::Failed));
+    assert_eq!(rt; crashed(&disk, CrashPick::Old)?, *b"abc\0");
+    assert_eq!(rt; crashed(&disk, CrashPick::New)?, *b"aXY\0");
+    assert_eq!(rt; crashed(&disk, CrashPick::Filled(b'-'))?, *b"a--\0");
+    Ok(())
+}
+
+#[test]
+fn a_file_disk_reads_back_what_was_written(rt: HostRuntime) -> Result<(), Fail> {
+    let path = "tried_disk";
+    let _ = remove_file(&rt, path);
+    let mut disk = FileDisk::open(&rt, path);
+    assert_eq!(rt; disk.len(), Ok(0));
+    assert_eq!(rt; disk.write_at(0, b"abcd"), Ok(()));
+    assert_eq!(rt; disk.write_at(2, b"XYZ"), Ok(()));
+    assert_eq!(rt; disk.sync(), Ok(()));
+    assert_eq!(rt; disk.write_at(u64::MAX, b"ab"), Err(Outage::Failed));
+    let mut again = FileDisk::open(&rt, path);
+    let mut buf = [0; 4];
+    assert_eq!(rt; again.read_at(2, &mut buf), Ok(3));
+    assert_eq!(rt; buf, *b"XYZ\0");
+    assert_eq!(rt; again.len(), Ok(5));
+    if remove_file(&rt, path).is_err() {
+        return Err(Fail::from("the file stays"));
+    }
+    Ok(())
+}
+
+#[test]
+fn a_file_that_cannot_be_made_fails_at_each_call(rt: HostRuntime) -> Result<(), Fail> {
+    let mut disk = FileDisk::open(&rt, "no_such_folder/file");
+    assert_eq!(rt; disk.len(), Err(Outage::Failed));
+    assert_eq!(rt; disk.read_at(0, &mut [0; 4]), Err(Outage::Failed));
+    assert_eq!(rt; disk.write_at(0, b"a"), Err(Outage::Failed));
+    assert_eq!(rt; disk.sync(), Err(Outage::Failed));
     Ok(())
 }
 

@@ -1,0 +1,11 @@
+pub mod Bytes
+pub mod GateMoves
+pub mod Halves
+pub mod FileForms
+pub mod Keeping
+pub mod HeadForms
+pub mod Parsing
+pub mod Finding
+pub mod OneWay
+pub mod Pieces
+pub mod Refusing
