@@ -1,3 +1,5 @@
 pub mod Catalogue
 pub mod Rules
 pub mod Changes
+pub mod Refusals
+pub mod Decisions

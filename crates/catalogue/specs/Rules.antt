@@ -1,5 +1,5 @@
 -- Which calls are refused, what the others change, and what they result in.
-use Rattle.std.specs.Prelude.{◌≡◌, ◌==◌, ℕ, ◌≤◌, nat_lt, nat_le, Bool, false, not, List, [], ◌∷◌, length, Option, None, Some, codes, decimal, if◌then◌else◌}
+use Rattle.std.specs.Prelude.{ℕ, nat_lt, nat_le, Bool, false, not, ◌&&◌, List, [], ◌∷◌, length, Option, None, Some, codes, decimal, if◌then◌else◌}
 use Rattle.std.specs.BTreeMap.{insert_entry}
 use Rattle.std.specs.Cmp.Lexicographic.{slice_cmp}
 use Rattle.std.specs.Map.{keys_of, remove_entry}
@@ -13,14 +13,15 @@ use Rattle.cat_types.specs.declared.changes.Change.{Change}
 use Rattle.cat_types.specs.declared.changes.EventKind.TheVariants as kind
 use Rattle.cat_types.specs.declared.changes.Op.TheVariants.{PutDb}
 use Rattle.cat_types.specs.declared.replies.Reply.{Reply}
-use Rattle.cat_types.specs.declared.replies.Reply.TheVariants.{Db, Names, Nothing, Refused}
+use Rattle.cat_types.specs.declared.replies.Reply.TheVariants.{Db, Names, Nothing}
 use Rattle.cat_values.specs.declared.records.DbRec.{DbRec}
 use Rattle.catalogue.specs.Catalogue.{Catalogue, database, has_database, is_name}
-use Rattle.catalogue.specs.Changes.{Creates}
+use Rattle.catalogue.specs.Changes.{has_operation}
+use Rattle.catalogue.specs.Decisions.{Decision, decided_by}
 use Rattle.catalogue.specs.declared.bars.Bars.{Bars}
 use Rattle.catalogue.specs.declared.bars.ReplicaAt.{ReplicaAt}
-use Rattle.catalogue.specs.declared.decided.Decided.{Decided}
-use Rattle.catalogue.specs.declared.decided.Decided.TheVariants as decided
+use Rattle.catalogue.specs.declared.refusal.Refusal.{Refusal}
+use Rattle.catalogue.specs.declared.refusal.Refusal.TheVariants.{AlreadyExists, EventNumbersUsedUp, InvalidObject, NoSuchObject}
 
 -- names of objects are read without regard to the case of ASCII letters
 abbrev pub lower : List ℕ → List ℕ
@@ -36,28 +37,19 @@ abbrev pub kept_name : Option (List ℕ) → List ℕ
 kept_name None = []
 kept_name (Some name) = lower name
 
--- the first of these rules that creating a database breaks: it has a lawful name, which is free; there are fewer than a million databases; and there is a number for the event
-abbrev pub create_refusal : Catalogue → DbArg → ℕ → Option ℕ
-create_refusal cat db next =
-    if not (is_named db.name) then Some 3
-    else (if has_database cat (kept_name db.name) then Some 1
-    else (if nat_le 1000000 (length cat.databases) then Some 3
-    else (if nat_lt 9223372036854775807 next then Some 12
-    else None)))
+-- the first of these rules that creating a database breaks: it has a lawful name, which is free, and there are fewer than a million databases
+abbrev pub create_breaks : Catalogue → DbArg → Option Refusal
+create_breaks cat db =
+    if not (is_named db.name) then Some InvalidObject
+    else (if has_database cat (kept_name db.name) then Some AlreadyExists
+    else (if nat_le 1000000 (length cat.databases) then Some InvalidObject
+    else None))
 
--- the number of the refusal of a call, whose event would get the number `next`
-abbrev pub refusal : Catalogue → Call → ℕ → Option ℕ
-refusal cat GetAllDatabases next = None
-refusal cat (GetDatabase name) next = if has_database cat (lower name) then None else Some 2
-refusal cat (CreateDatabase db) next = create_refusal cat db next
-
--- the text of a refusal
-abbrev pub refusal_text : ℕ → List ℕ
-refusal_text number =
-    if number == 1 then codes "already exists"
-    else (if number == 2 then codes "no such object"
-    else (if number == 3 then codes "invalid object"
-    else codes "event numbers used up"))
+-- the first of its own rules that a call breaks
+abbrev pub breaks : Catalogue → Bars → Call → ℕ → ℕ → Option Refusal
+breaks cat bars GetAllDatabases moment next = None
+breaks cat bars (GetDatabase name) moment next = if has_database cat (lower name) then None else Some NoSuchObject
+breaks cat bars (CreateDatabase db) moment next = create_breaks cat db
 
 -- the parameter that shows a replica's position
 abbrev pub position_key : List ℕ
@@ -88,41 +80,35 @@ shown_as None replicas name = Nothing
 shown_as (Some held) replicas name = Db name (shown_record (position replicas name) held.1)
 
 -- what an accepted call changes
-abbrev pub change : Call → ℕ → Option Change
-change GetAllDatabases next = None
-change (GetDatabase name) next = None
-change (CreateDatabase db) next = Some (record { kind = kind.CreateDatabase; db = kept_name db.name; db_born = next; ops = PutDb (kept_record db.rec) ∷ [] })
+abbrev pub change : Catalogue → Bars → Call → ℕ → ℕ → Option Change
+change cat bars GetAllDatabases moment next = None
+change cat bars (GetDatabase name) moment next = None
+change cat bars (CreateDatabase db) moment next = Some (record { kind = kind.CreateDatabase; db = kept_name db.name; db_born = next; ops = PutDb (kept_record db.rec) ∷ [] })
 
 -- what an accepted call results in
-abbrev pub result_of : Catalogue → Bars → Call → Reply
-result_of cat bars GetAllDatabases = Names (keys_of cat.databases)
-result_of cat bars (GetDatabase name) = shown_as (database cat (lower name)) bars.replicas (lower name)
-result_of cat bars (CreateDatabase db) = Nothing
+abbrev pub result_of : Catalogue → Bars → Call → ℕ → ℕ → Reply
+result_of cat bars GetAllDatabases moment next = Names (keys_of cat.databases)
+result_of cat bars (GetDatabase name) moment next = shown_as (database cat (lower name)) bars.replicas (lower name)
+result_of cat bars (CreateDatabase db) moment next = Nothing
 
-abbrev pub decided_as : Option ℕ → Option Change → Reply → Decided
-decided_as (Some number) changed reply = decided.Reply (Refused number (refusal_text number))
-decided_as None None reply = decided.Reply reply
-decided_as None (Some changed) reply = decided.Change changed reply
+-- no number is left for the event of a change: it has an operation, and the next number is above the last that an event may have
+abbrev pub lacks_number : Option Change → ℕ → Option Refusal
+lacks_number None next = None
+lacks_number (Some change) next = if has_operation change && nat_lt 9223372036854775807 next then Some EventNumbersUsedUp else None
+
+-- the first of two refusals, where there is one
+abbrev pub first_refusal : Option Refusal → Option Refusal → Option Refusal
+first_refusal (Some refusal) later = Some refusal
+first_refusal None later = later
+
+-- why a call at this moment is refused, whose event would get the number `next`: the first of its own rules that it breaks, and after all of them that no number is left for its event
+abbrev pub refusal : Catalogue → Bars → Call → ℕ → ℕ → Option Refusal
+refusal cat bars call moment next = first_refusal (breaks cat bars call moment next) (lacks_number (change cat bars call moment next) next)
+
+-- what its own rules decide of a call
+abbrev pub ruled : Catalogue → Bars → Call → ℕ → ℕ → Decision
+ruled cat bars call moment next = decided_by (breaks cat bars call moment next) (change cat bars call moment next) (result_of cat bars call moment next)
 
 -- what is decided of a call: its refusal, or its change and its result
-abbrev pub decision : Catalogue → Bars → Call → ℕ → Decided
-decision cat bars call next = decided_as (refusal cat call next) (change call next) (result_of cat bars call)
-
--- an answer is what is decided, or want of memory
-abbrev pub Decides : Catalogue → Bars → Call → ℕ → Decided → Type 0
-Decides cat bars call next decided.NoMemory = Unit {0}
-Decides cat bars call next answer = answer ≡ decision cat bars call next
-
--- a fact of a decision that isn't want of memory
-abbrev pub OnDecided : Decided → Type 0 → Type 0
-OnDecided decided.NoMemory fact = Unit {0}
-OnDecided answer fact = fact
-
--- a change that makes a database which isn't there, and whose event has a number that an event may have
-abbrev pub CanBeDone : Catalogue → ℕ → Change → Type 0
-CanBeDone cat next change = Creates change cat × (next ≤ 9223372036854775807)
-
--- a fact of the change that was decided, where there is one
-abbrev pub IfChange : Decided → (Change → Type 0) → Type 0
-IfChange (decided.Change change reply) fact = fact change
-IfChange other fact = Unit {0}
+abbrev pub decision : Catalogue → Bars → Call → ℕ → ℕ → Decision
+decision cat bars call moment next = decided_by (refusal cat bars call moment next) (change cat bars call moment next) (result_of cat bars call moment next)

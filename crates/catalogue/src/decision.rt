@@ -1,12 +1,13 @@
 //! What a call is refused for, changes and results in.
 
-ghost use Rattle.std.specs.Prelude.{◌≡◌, [], ◌∷◌, IfOk};
-ghost use Rattle.catalogue.specs.Rules.{CanBeDone, Decides, IfChange, OnDecided, kept_record, lower, refusal_text};
+ghost use Rattle.std.specs.Prelude.{◌≡◌, [], ◌∷◌, IfOk, Some, true};
+ghost use Rattle.catalogue.specs.Changes.{takes_change};
+ghost use Rattle.catalogue.specs.Decisions.{Decides, IfChange, decided_by, refused};
+ghost use Rattle.catalogue.specs.Rules.{decision, kept_record, lacks_number, lower, ruled};
 ghost use Rattle.cat_types.specs.declared.calls.Call.TheVariants.{CreateDatabase, GetDatabase};
-ghost use Rattle.cat_types.specs.declared.replies.Reply.TheVariants.{Refused};
 
 use crate::showing::{kept_record, shown_record};
-use crate::{Bars, Cat, Decided};
+use crate::{Bars, Cat, Decided, Refusal};
 use cat_rules::object_name;
 use cat_types::{Call, Change, DbArg, DbRec, EventKind, ListOf, NoMemory, Op, Reply, Text};
 use std::alloc::Global;
@@ -19,44 +20,80 @@ pub const LAST_EVENT: u64 = 9_223_372_036_854_775_807;
 
 /// Decides a call over a catalogue: its refusal, or its change and its result. `bars` says what
 /// bars changes, `moment` is the time in seconds since 1970, and `next` the number that an event of
-/// this call would get. The calls that are here so far don't need the moment.
-pub fn decide(
+/// this call would get. A change that it tells can be taken. The calls that are here so far don't
+/// need the moment.
+pub fn decide(alloc: Global, cat: &Cat, bars: &Bars, call: &Call, moment: u64, next: u64) -> Decided
+    ensures decided { Decides (decision cat.now bars.now call.now moment next) result }
+    ensures taken { IfChange result (λ change. takes_change cat.now next change ≡ true) }
+{
+    decide_call(alloc, cat, bars, call, moment, next)
+}
+
+// Decides a call: by its own rules, and then by whether a number is left for its event.
+fn decide_call(
     alloc: Global,
     cat: &Cat,
     bars: &Bars,
     call: &Call,
-    _moment: u64,
+    moment: u64,
     next: u64,
 ) -> Decided
-    ensures decided { Decides cat.now bars.now call.now next result }
-    ensures can { IfChange result (CanBeDone cat.now next) }
+    ensures { Decides (decision cat.now bars.now call.now moment next) result }
 {
-    decide_call(alloc, cat, bars, call, next)
+    match decide_by_rules(alloc, cat, bars, call, moment, next) {
+        Decided::Change(change, reply) => number_event(alloc, change, reply, next),
+        Decided::Reply(reply) => Decided::Reply(reply),
+        Decided::NoMemory => Decided::NoMemory,
+    }
 }
 
-// Decides a call.
-fn decide_call(alloc: Global, cat: &Cat, bars: &Bars, call: &Call, next: u64) -> Decided
-    ensures { Decides cat.now bars.now call.now next result }
+// Accepts a change, unless it makes an event for which no number is left.
+fn number_event(alloc: Global, change: Change, reply: Reply, next: u64) -> Decided
+    ensures { Decides (decided_by (lacks_number (Some change) next) (Some change) reply) result }
+{
+    if !change.ops.is_empty() && next > LAST_EVENT {
+        return refused(alloc, Refusal::EventNumbersUsedUp);
+    }
+    Decided::Change(change, reply)
+}
+
+// Decides a call by its own rules.
+fn decide_by_rules(
+    alloc: Global,
+    cat: &Cat,
+    bars: &Bars,
+    call: &Call,
+    moment: u64,
+    next: u64,
+) -> Decided
+    ensures { Decides (ruled cat.now bars.now call.now moment next) result }
 {
     match call {
         Call::GetAllDatabases => match cat.names(alloc) {
             Ok(names) => Decided::Reply(Reply::Names(names)),
             Err(NoMemory) => Decided::NoMemory,
         },
-        Call::GetDatabase { name } => decide_get(alloc, cat, bars, name, next),
-        Call::CreateDatabase { db } => decide_create(alloc, cat, bars, db, next),
+        Call::GetDatabase { name } => decide_get(alloc, cat, bars, name, moment, next),
+        Call::CreateDatabase { db } => decide_create(alloc, cat, bars, db, moment, next),
     }
 }
 
 // A database by its name.
-fn decide_get(alloc: Global, cat: &Cat, bars: &Bars, name: &Text, _next: u64) -> Decided
-    ensures { Decides cat.now bars.now (GetDatabase name.now) _next result }
+fn decide_get(
+    alloc: Global,
+    cat: &Cat,
+    bars: &Bars,
+    name: &Text,
+    _moment: u64,
+    _next: u64,
+) -> Decided
+    ensures { Decides (ruled cat.now bars.now (GetDatabase name.now) _moment _next) result }
 {
     let Ok(name) = lower(alloc, name) else {
         return Decided::NoMemory;
     };
     let Some((_, rec)) = cat.database(&name) else {
-        return refused(alloc, 2);
+        return refused(alloc, Refusal::NoSuchObject);
     };
     match shown_record(alloc, &bars.replicas, &name, rec) {
         Ok(rec) => Decided::Reply(Reply::Db(name, rec)),
@@ -65,26 +102,30 @@ fn decide_get(alloc: Global, cat: &Cat, bars: &Bars, name: &Text, _next: u64) ->
 }
 
 // Creating a database.
-fn decide_create(alloc: Global, cat: &Cat, _bars: &Bars, db: &DbArg, next: u64) -> Decided
-    ensures { Decides cat.now _bars.now (CreateDatabase db.now) next result }
+fn decide_create(
+    alloc: Global,
+    cat: &Cat,
+    _bars: &Bars,
+    db: &DbArg,
+    _moment: u64,
+    next: u64,
+) -> Decided
+    ensures { Decides (ruled cat.now _bars.now (CreateDatabase db.now) _moment next) result }
 {
     let Some(name) = &db.name else {
-        return refused(alloc, 3);
+        return refused(alloc, Refusal::InvalidObject);
     };
     if !object_name(name) {
-        return refused(alloc, 3);
+        return refused(alloc, Refusal::InvalidObject);
     }
     let Ok(name) = lower(alloc, name) else {
         return Decided::NoMemory;
     };
     if cat.has_database(&name) {
-        return refused(alloc, 1);
+        return refused(alloc, Refusal::AlreadyExists);
     }
     if cat.db_count() >= DATABASE_LIMIT {
-        return refused(alloc, 3);
-    }
-    if next > LAST_EVENT {
-        return refused(alloc, 12);
+        return refused(alloc, Refusal::InvalidObject);
     }
     match creation(alloc, name, &db.rec, next) {
         Ok(change) => Decided::Change(change, Reply::Nothing),
@@ -117,18 +158,12 @@ fn lower(alloc: Global, name: &Text) -> Result<Text, NoMemory>
     }
 }
 
-// The refusal with this number.
-fn refused(alloc: Global, number: u8) -> Decided
-    ensures { OnDecided result (result ≡ Decided.Reply (Refused number (refusal_text number))) }
+// Tells a refusal.
+fn refused(alloc: Global, refusal: Refusal) -> Decided
+    ensures { Decides (refused refusal) result }
 {
-    let text = match number {
-        1 => "already exists",
-        2 => "no such object",
-        3 => "invalid object",
-        _ => "event numbers used up",
-    };
-    match Text::of(alloc, text) {
-        Ok(text) => Decided::Reply(Reply::Refused(number, text)),
+    match Text::of(alloc, refusal.text()) {
+        Ok(text) => Decided::Reply(Reply::Refused(refusal.number(), text)),
         Err(_) => Decided::NoMemory,
     }
 }

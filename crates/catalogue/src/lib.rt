@@ -6,6 +6,7 @@ mod cat;
 mod decided;
 mod decision;
 mod placing;
+mod refusal;
 mod showing;
 
 pub use bars::{Bars, ReplicaAt, ReplicaAts};
@@ -13,3 +14,4 @@ pub use cat::Cat;
 pub use decided::Decided;
 pub use decision::{DATABASE_LIMIT, LAST_EVENT, decide};
 pub use placing::Placed;
+pub use refusal::Refusal;

@@ -1,8 +1,8 @@
 //! Doing a change in two steps: it is placed first, which takes all the memory, and then settled,
 //! or taken back.
 
-ghost use Rattle.std.specs.Prelude.{◌≡◌, IfOk, OnErr};
-ghost use Rattle.catalogue.specs.Changes.{Creates, done, undone};
+ghost use Rattle.std.specs.Prelude.{◌≡◌, true, IfOk, OnErr};
+ghost use Rattle.catalogue.specs.Changes.{creates, done, settled, taken_back};
 
 use crate::Cat;
 use cat_types::{Change, NoMemory, Op, Text, TryCopy};
@@ -15,11 +15,12 @@ pub struct Placed {
 
 impl Cat {
     /// Does a change as far as it takes memory. It needs a change that makes a database which isn't
-    /// there. After `NoMemory` the catalogue is as before.
+    /// there. Once what was placed is settled, the whole change is done; once it is taken back, the
+    /// catalogue is as before. After `NoMemory` it is as before too.
     pub fn place(&mut self, change: &Change) -> Result<Placed, NoMemory>
-        requires { Creates change.now self.old }
-        ensures done { IfOk result (λ _. self.new ≡ done change.now self.old) }
-        ensures undone { IfOk result (λ placed. undone placed.created self.new ≡ self.old) }
+        requires { creates self.old change.now ≡ true }
+        ensures settled { IfOk result (λ placed. settled placed self.new ≡ done change.now self.old) }
+        ensures taken_back { IfOk result (λ placed. taken_back placed self.new ≡ self.old) }
         ensures err { OnErr result (self.new ≡ self.old) }
     {
         let Some(Op::PutDb { rec }) = change.ops.get(0) else {
@@ -32,16 +33,16 @@ impl Cat {
         Ok(Placed { created })
     }
 
-    /// Settles what was placed: the change is done. It takes no memory.
+    /// Settles what was placed: the rest of the change is done. It takes no memory.
     pub fn settle(&mut self, placed: Placed)
-        ensures { self.new ≡ self.old }
+        ensures { self.new ≡ settled placed self.old }
     {
         let Placed { created: _ } = placed;
     }
 
     /// Takes back what was placed. It takes no memory.
     pub fn take_back(&mut self, placed: Placed)
-        ensures { self.new ≡ undone placed.created self.old }
+        ensures { self.new ≡ taken_back placed self.old }
     {
         let _ = self.databases.remove(&placed.created);
     }

@@ -1,18 +1,16 @@
 -- Changes and events stand together along a history.
-use Rattle.std.proofs.Common.{◌≡◌, ℕ, ◌+◌, Bool, true, false, List, [], ◌∷◌, ◌++◌, length, Option, Some, None, refl, sym, ◌∙◌, ap, subst, arith, append_assoc, length-append}
-use Rattle.std.specs.Prelude.{cond, option_to_list, ◌==◌}
+use Rattle.std.proofs.Common.{◌≡◌, ℕ, ◌+◌, zero, suc, Bool, true, false, List, [], ◌∷◌, ◌++◌, length, Option, Some, None, refl, sym, ◌∙◌, ap, subst, arith, append_assoc, length-append}
+use Rattle.std.specs.Prelude.{cond, option_to_list}
 use Rattle.std.proofs.lemmas.List.{append-nil}
 use Rattle.cat_types.specs.declared.changes.Event.{Event}
 use Rattle.cat_types.specs.declared.steps.Step.{Step}
 use Rattle.cat_types.specs.declared.steps.Step.TheVariants.{Client}
 use Rattle.catalogue.specs.Catalogue.{Catalogue}
 use Rattle.catalogue.specs.Changes.{done}
-use Rattle.catalogue.specs.Rules.{decision}
-use Rattle.catalogue.specs.declared.decided.Decided.{Decided}
-use Rattle.catalogue.specs.declared.decided.Decided.TheVariants as decided
-use Rattle.desk.specs.History.{Left, Moment, Place, took, reopened, event_found, events_at, events_from, found, is_refused, next, place_after, place_of, state_found}
+use Rattle.desk.specs.History.{Left, Moment, Place, took, reopened, event_found, events_at, events_from, found, left_at, next, place_after, place_of, state_found}
 use Rattle.desk.specs.Laws.{ChangesAndEventsStandTogether, Leads, Numbered, catalogue_after}
-use Rattle.desk.specs.State.{State, bars, changes, due, due_by, durable, event_by, event_of, next_event, writes}
+use Rattle.desk.specs.State.{State, Written, due, event_in, event_of, is_refused, kept, with_written, writes, writing}
+use Rattle.desk.proofs.Writing.{IsNext, is_next, none_kept}
 
 catalogue_after-push : (cat : Catalogue) (es : List Event) (e : Event) → catalogue_after cat (es ++ e ∷ []) ≡ done e.change (catalogue_after cat es)
 catalogue_after-push cat [] e = refl
@@ -28,7 +26,7 @@ same old events s h = subst (λ (l : List Event). Leads old l s) (sym (append-ni
 
 -- one event more
 after_event : (old : State) (events : List Event) (s : State) (e : Event) → e.id ≡ s.newest + 1 → Leads old events s
-    → Leads old (events ++ e ∷ []) (record { id = s.id; catalogue = done e.change s.catalogue; events = s.events ++ e ∷ []; first = s.first; newest = s.newest + 1; last_dump = s.last_dump })
+    → Leads old (events ++ e ∷ []) (with_written (Some (kept e)) s)
 after_event old events s e id h = record {
   catalogue = ap (λ (c : Catalogue). done e.change c) h.catalogue ∙ sym (catalogue_after-push old.catalogue events e);
   kept = ap (λ (l : List Event). l ++ e ∷ []) h.kept ∙ append_assoc old.events events (e ∷ []);
@@ -39,22 +37,12 @@ after_event old events s e id h = record {
   dumped = h.dumped;
 }
 
-after_decision : (old : State) (events : List Event) (s : State) (d : Decided) (moment : ℕ) → Leads old events s → Leads old (events ++ option_to_list (event_by d s moment)) (due_by d s moment).state
-after_decision old events s (decided.Change change reply) moment h = after_event old events s (next_event s moment change) refl h
-after_decision old events s (decided.Reply reply) moment h = same old events s h
-after_decision old events s decided.NoMemory moment h = same old events s h
+after_written : (old : State) (events : List Event) (s : State) (o : Option Written) → IsNext s o → Leads old events s → Leads old (events ++ option_to_list (event_in o)) (with_written o s)
+after_written old events s None n h = same old events s h
+after_written old events s (Some (kept event)) n h = after_event old events s event n h
 
 after_taken : (old : State) (events : List Event) (s : State) (caller : ℕ) (step : Step) → Leads old events s → Leads old (events ++ option_to_list (event_of s step)) (due s caller step).state
-after_taken old events s caller (Client call moment) h = after_decision old events s (decision s.catalogue bars call (s.newest + 1)) moment h
-
-no_event : (d : Decided) (s : State) (moment : ℕ) → changes d ≡ false → event_by d s moment ≡ None
-no_event (decided.Change change reply) s moment still = absurd cc
-no_event (decided.Reply reply) s moment still = refl
-no_event decided.NoMemory s moment still = refl
-
--- a step that doesn't write keeps no event
-none_kept : (s : State) (step : Step) → writes s step ≡ false → event_of s step ≡ None
-none_kept s (Client call moment) still = no_event (decision s.catalogue bars call (s.newest + 1)) s moment still
+after_taken old events s caller (Client call moment) h = after_written old events s (writing s (Client call moment)) (is_next s (Client call moment)) h
 
 -- to each step that may be found done its event would lead too
 abbrev AllLead : State → List Event → List Left → Type 0
@@ -65,23 +53,23 @@ record Well (old : State) (events : List Event) (p : Place) : Type 0 where
   here : Leads old events p.state
   left : AllLead old events p.left
 
+all_push : (old : State) (events : List Event) (ls : List Left) (l : Left) → AllLead old events ls → Leads old (events ++ option_to_list l.event) l.state → AllLead old events (ls ++ l ∷ [])
+all_push old events [] l all one = (one, tt)
+all_push old events (x ∷ ls) l all one = (all.0, all_push old events ls l all.1 one)
+
 one_found : (old : State) (events : List Event) (n : ℕ) (ls : List Left) (l : Left) → AllLead old events ls → found n ls ≡ Some l → Leads old (events ++ option_to_list l.event) l.state
 one_found old events n [] l all is = absurd cc
-one_found old events n (x ∷ ls) l all is = by_test (x.number == n) is (one_found old events n ls l all.1)
-  where
-    by_test : (b : Bool) → cond b (Some x) (found n ls) ≡ Some l → (found n ls ≡ Some l → Leads old (events ++ option_to_list l.event) l.state) → Leads old (events ++ option_to_list l.event) l.state
-    by_test true here later = let e : x ≡ l = cc in subst (λ (y : Left). Leads old (events ++ option_to_list y.event) y.state) e all.0
-    by_test false behind later = later behind
+one_found old events zero (x ∷ ls) l all is = let e : x ≡ l = cc in subst (λ (y : Left). Leads old (events ++ option_to_list y.event) y.state) e all.0
+one_found old events (suc n) (x ∷ ls) l all is = one_found old events n ls l all.1 is
 
 -- an entry, by whether it was refused and whether it writes
 took_on : (old : State) (events : List Event) (p : Place) (caller : ℕ) (step : Step) (refused writing : Bool) → writes p.state step ≡ writing → Well old events p
     → Leads old (events ++ cond refused [] (option_to_list (event_of p.state step))) (cond refused p.state (due p.state caller step).state)
     × AllLead old (events ++ cond refused [] (option_to_list (event_of p.state step)))
-    (cond writing (cond refused (record { number = p.number; state = durable (due p.state caller step).state; event = event_of p.state step } ∷ p.left) []) p.left)
+    (cond writing (cond refused (p.left ++ left_at p.state caller step ∷ []) []) p.left)
 took_on old events p caller step true true is h = (
   same old events p.state h.here,
-  subst (λ (l : List Event). AllLead old l (record { number = p.number; state = durable (due p.state caller step).state; event = event_of p.state step } ∷ p.left)) (sym (append-nil events))
-      (after_taken old events p.state caller step h.here, h.left),
+  subst (λ (l : List Event). AllLead old l (p.left ++ left_at p.state caller step ∷ [])) (sym (append-nil events)) (all_push old events p.left (left_at p.state caller step) h.left (after_taken old events p.state caller step h.here)),
 )
 took_on old events p caller step true false is h = (same old events p.state h.here, subst (λ (l : List Event). AllLead old l p.left) (sym (append-nil events)) h.left)
 took_on old events p caller step false true is h = (after_taken old events p.state caller step h.here, tt)

@@ -1,7 +1,7 @@
 -- How a legal history goes on.
 use Rattle.std.proofs.Common.{◌≡◌, ◌≢◌, ◌≤◌, ℕ, List, [], ◌∷◌, ◌++◌, map, refl, sym, ◌∙◌, ap, subst, arith}
-use Rattle.desk.specs.State.{State, Takes, due}
-use Rattle.desk.specs.History.{Moment, took, Place, place_of, next, place_after, IsLegal, MayAnswer, MayFollow, NoneAbove, NoStoreFault, Entry, run_of, start_of, IsRun}
+use Rattle.desk.specs.State.{State, MayAnswer, Takes, state_after_answer}
+use Rattle.desk.specs.History.{Moment, took, Place, place_of, next, place_after, IsLegal, MayFollow, NoneAbove, NoStoreFault, Entry, run_of, start_of, IsRun}
 use Rattle.desk.specs.declared.entries.Asked.{Asked}
 use Rattle.cat_types.specs.declared.steps.Answer.{Answer}
 use Rattle.cat_types.specs.declared.steps.Step.{Step}
@@ -43,12 +43,14 @@ run_on old new id base es e h may is none =
     }
 
 -- what a step of the store does, its history does
-pub takes_on : (old new : State) (id : List ℕ) (base : ℕ) (es : List Entry) (asked : Asked) (answer : Answer) → Takes old asked.caller asked.step answer new → IsRun (run_of old id base es)
-    → IsRun (run_of new id base (es ++ (asked, record { answer = answer; fault = 0 }) ∷ []))
-takes_on old new id base es asked NoMemory takes h = run_on old new id base es (asked, record { answer = NoMemory; fault = 0 }) h (omega (arith, h.fault), tt) (h.state ∙ sym takes) refl
-takes_on old new id base es asked StoreFault takes h = absurd takes
-takes_on old new id base es asked (Reply r) takes h =
-    run_on old new id base es (asked, record { answer = Reply r; fault = 0 }) h (omega (arith, h.fault), takes.0 ∙ ap (λ (x : State). (due x asked.caller asked.step).answer) (sym h.state)) (ap (λ (x : State). (due x asked.caller asked.step).state) h.state ∙ sym takes.1) refl
+pub takes_on : (old new : State) (id : List ℕ) (base : ℕ) (es : List Entry) (asked : Asked) (given : Answer) → Takes old asked.caller asked.step given new → IsRun (run_of old id base es)
+    → IsRun (run_of new id base (es ++ (asked, record { answer = given; fault = 0 }) ∷ []))
+takes_on old new id base es asked given takes h =
+    let p : Place = place_after (place_of (start_of (run_of old id base es))) (map took es) in
+    let here : MayAnswer p.state 0 asked.caller asked.step given 0 = subst (λ (s : State). MayAnswer s 0 asked.caller asked.step given 0) (sym h.state) takes.0 in
+    run_on old new id base es (asked, record { answer = given; fault = 0 }) h
+    (omega (arith, h.fault), subst (λ (before : ℕ). MayAnswer p.state before asked.caller asked.step given 0) (sym h.fault) here)
+    (ap (λ (s : State). state_after_answer s asked.caller asked.step given) h.state ∙ sym takes.1) refl
 
 -- the same by the log's clause
 pub logged : (old new : State) (id : List ℕ) (base : ℕ) (es fs : List Entry) (asked : Asked) (answer : Answer) → Takes old asked.caller asked.step answer new → IsRun (run_of old id base es)
@@ -56,12 +58,12 @@ pub logged : (old new : State) (id : List ℕ) (base : ℕ) (es fs : List Entry)
 logged old new id base es fs asked answer takes h is = subst (λ (l : List Entry). IsRun (run_of new id base l)) (sym is) (takes_on old new id base es asked answer takes h)
 
 -- a fault of the store would have raised the fault number above 0
-not_told : (p : Place) (caller fault : ℕ) (step : Step) (answer : Answer) → MayAnswer p caller step answer fault → fault ≤ 0 → answer ≢ StoreFault
-not_told p caller fault step NoMemory may none is = absurd cc
-not_told p caller fault step StoreFault may none is = omega (arith, may.1, none)
-not_told p caller fault step (Reply r) may none is = absurd cc
+not_told : (s : State) (before caller after : ℕ) (step : Step) (given : Answer) → MayAnswer s before caller step given after → after ≤ 0 → given ≢ StoreFault
+not_told s before caller after step NoMemory may none is = absurd cc
+not_told s before caller after step StoreFault may none is = omega (arith, may.1, none)
+not_told s before caller after step (Reply r) may none is = absurd cc
 
 -- where no fault was counted none was told
 pub no_store_fault : (p : Place) (es : List Entry) → IsLegal p (map took es) → NoneAbove 0 es → NoStoreFault es
 no_store_fault p [] legal none = tt
-no_store_fault p (e ∷ es) legal none = (not_told p e.0.caller e.1.fault e.0.step e.1.answer legal.0.1 none.0, no_store_fault (next p (took e)) es legal.1 none.1)
+no_store_fault p (e ∷ es) legal none = (not_told p.state p.fault e.0.caller e.1.fault e.0.step e.1.answer legal.0.1 none.0, no_store_fault (next p (took e)) es legal.1 none.1)

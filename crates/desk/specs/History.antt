@@ -1,12 +1,10 @@
 -- Histories of a store, and which of them are legal.
-use Rattle.std.specs.Prelude.{◌≡◌, ◌≢◌, ℕ, ◌+◌, ◌≤◌, ◌==◌, Bool, true, false, List, [], ◌∷◌, ◌++◌, map, Option, Some, None, option_to_list, IsSome, if◌then◌else◌}
+use Rattle.std.specs.Prelude.{◌≡◌, ◌≢◌, ℕ, ◌≤◌, zero, suc, List, [], ◌∷◌, ◌++◌, map, Option, Some, None, option_to_list, IsSome, if◌then◌else◌}
 use Rattle.std.specs.List.{AllByRecursion}
 use Rattle.cat_types.specs.declared.changes.Event.{Event}
-use Rattle.cat_types.specs.declared.steps.Answer.{Answer}
 use Rattle.cat_types.specs.declared.steps.Answer.TheVariants as answer
 use Rattle.cat_types.specs.declared.steps.Step.{Step}
-use Rattle.hms_outside.specs.Causes.{Rose}
-use Rattle.desk.specs.State.{State, due, durable, event_of, start, writes}
+use Rattle.desk.specs.State.{State, MayAnswer, due, durable, event_of, is_refused, start, state_after_answer, writes}
 use Rattle.desk.specs.declared.entries.Asked.{Asked}
 use Rattle.desk.specs.declared.entries.Told.{Told}
 
@@ -14,7 +12,7 @@ use Rattle.desk.specs.declared.entries.Told.{Told}
 abbrev pub Entry : Type 0
 Entry = Asked × Told
 
--- an entry; or an opening of the store again, with the number of a step that it found done, where it found one, and the fault number
+-- an entry; or an opening of the store again, with the place of a step that it found done among those left unsettled, the oldest at 0, where it found one, and the fault number
 pub data Moment : Type 0 where
   took : Entry → Moment
   reopened : Option ℕ → ℕ → Moment
@@ -24,31 +22,25 @@ pub record Start : Type 0 where
   pub state : State
   pub fault : ℕ
 
--- a writing step that was refused by a fault or for memory, and may yet be found done: its number, what is on the disks with it, and its event
+-- a writing step that was refused by a fault or for memory, and may yet be found done: what is on the disks with it, and its event
 pub record Left : Type 0 where
-  pub number : ℕ
   pub state : State
   pub event : Option Event
 
--- where a history stands: its state, the fault number, how many entries and openings went before, and the steps that may yet be found done
+-- where a history stands: its state, the fault number, and the steps that may yet be found done, the oldest first
 pub record Place : Type 0 where
   pub state : State
   pub fault : ℕ
-  pub number : ℕ
   pub left : List Left
 
 abbrev pub place_of : Start → Place
-place_of s = record { state = s.state; fault = s.fault; number = 0; left = [] }
+place_of s = record { state = s.state; fault = s.fault; left = [] }
 
--- the step was refused by a fault or for memory, and its state stays
-abbrev pub is_refused : Answer → Bool
-is_refused answer.NoMemory = true
-is_refused answer.StoreFault = true
-is_refused (answer.Reply reply) = false
-
+-- the step at this place
 abbrev pub found : ℕ → List Left → Option Left
 found n [] = None
-found n (l ∷ ls) = if l.number == n then Some l else found n ls
+found zero (l ∷ ls) = Some l
+found (suc n) (l ∷ ls) = found n ls
 
 -- the step that an opening found done
 abbrev pub found_done : Option ℕ → List Left → Option Left
@@ -64,34 +56,35 @@ abbrev pub event_found : Option Left → Option Event
 event_found None = None
 event_found (Some l) = l.event
 
+-- a step that may yet be found done
+abbrev pub left_at : State → ℕ → Step → Left
+left_at state caller step = record { state = durable (due state caller step).state; event = event_of state step }
+
 -- a refused writing step may yet be found done; an accepted one settles all before it
 abbrev pub left_after : Place → Entry → List Left
 left_after p e =
     if writes p.state e.0.step
-    then if is_refused e.1.answer then (record { number = p.number; state = durable (due p.state e.0.caller e.0.step).state; event = event_of p.state e.0.step }) ∷ p.left else []
+    then if is_refused e.1.answer then p.left ++ left_at p.state e.0.caller e.0.step ∷ [] else []
     else p.left
 
 -- where a history stands after one moment more
 abbrev pub next : Place → Moment → Place
 next p (took e) = record {
-  state = if is_refused e.1.answer then p.state else (due p.state e.0.caller e.0.step).state;
+  state = state_after_answer p.state e.0.caller e.0.step e.1.answer;
   fault = e.1.fault;
-  number = p.number + 1;
   left = left_after p e;
 }
-next p (reopened a fault) = record { state = state_found p.state (found_done a p.left); fault = fault; number = p.number + 1; left = [] }
+next p (reopened a fault) = record { state = state_found p.state (found_done a p.left); fault = fault; left = [] }
 
--- an answer that may be given there: what is due; or want of memory; or a fault of the store, to a writing step whose fault number rose
-abbrev pub MayAnswer : Place → ℕ → Step → Answer → ℕ → Type 0
-MayAnswer p caller step answer.NoMemory fault = Unit {0}
-MayAnswer p caller step answer.StoreFault fault = (writes p.state step ≡ true) × Rose p.fault fault
-MayAnswer p caller step (answer.Reply reply) fault = answer.Reply reply ≡ (due p.state caller step).answer
+-- an opening may find none of the steps left unsettled done, or any one of them
+abbrev pub MayReopen : Option ℕ → List Left → Type 0
+MayReopen None left = Unit {0}
+MayReopen (Some n) left = IsSome (found n left)
 
 -- a moment that may come next; fault numbers never fall
 abbrev pub MayFollow : Place → Moment → Type 0
-MayFollow p (took e) = (p.fault ≤ e.1.fault) × MayAnswer p e.0.caller e.0.step e.1.answer e.1.fault
-MayFollow p (reopened None fault) = Unit {0}
-MayFollow p (reopened (Some n) fault) = IsSome (found n p.left)
+MayFollow p (took e) = (p.fault ≤ e.1.fault) × MayAnswer p.state p.fault e.0.caller e.0.step e.1.answer e.1.fault
+MayFollow p (reopened a fault) = MayReopen a p.left
 
 abbrev pub place_after : Place → List Moment → Place
 place_after p [] = p

@@ -1,5 +1,5 @@
 -- What follows from histories.
-use Rattle.std.specs.Prelude.{◌≡◌, ◌≢◌, ◌⊎◌, ◌↔◌, ℕ, ◌+◌, ◌≤◌, Bool, true, false, not, ◌&&◌, List, [], ◌∷◌, ◌++◌, length, Option, Some, None, option_to_list}
+use Rattle.std.specs.Prelude.{◌≡◌, ◌≢◌, ◌⊎◌, ◌↔◌, ℕ, ◌+◌, ◌≤◌, Bool, true, false, not, ◌&&◌, List, [], ◌∷◌, ◌++◌, length, Option, Some, None, option_to_list, if◌then◌else◌}
 use Rattle.std.specs.Cmp.Lexicographic.{slice_cmp}
 use Rattle.std.specs.List.Sorted.{IsStrictlySortedBy}
 use Rattle.std.specs.Map.{keys_of}
@@ -9,8 +9,8 @@ use Rattle.cat_types.specs.declared.steps.Answer.TheVariants as answer
 use Rattle.cat_types.specs.declared.steps.Step.{Step}
 use Rattle.catalogue.specs.Catalogue.{Catalogue}
 use Rattle.catalogue.specs.Changes.{done}
-use Rattle.desk.specs.History.{Entry, Moment, took, reopened, Place, Start, MayFollow, events_at, events_from, is_refused, next, place_after, place_of}
-use Rattle.desk.specs.State.{State, due, durable, event_of, start, writes}
+use Rattle.desk.specs.History.{Entry, Moment, took, reopened, Place, Start, MayFollow, events_at, events_from, next, place_after, place_of}
+use Rattle.desk.specs.State.{State, due, durable, event_of, is_refused, start, writes}
 
 -- ---- a change and its event
 
@@ -49,30 +49,40 @@ abbrev pub NoneSettles : Place → List Moment → Type 0
 NoneSettles p [] = Unit {0}
 NoneSettles p (m ∷ ms) = (settles p m ≡ false) × NoneSettles (next p m) ms
 
--- the moment with this number, counted from the place's own, was a writing step that was answered by want of memory or a fault of the store, and no moment behind it settled it
-pub record Unsettled (p : Place) (history : List Moment) (n : ℕ) : Type 0 where
+-- how many steps are left unsettled after one moment more: none after a moment that settles, and one more after a refused writing step
+abbrev pub unsettled_next : Place → Moment → ℕ → ℕ
+unsettled_next p (took e) n = if writes p.state e.0.step then (if is_refused e.1.answer then n + 1 else 0) else n
+unsettled_next p (reopened a fault) n = 0
+
+-- how many steps are left unsettled after moments, where so many were before them
+abbrev pub unsettled_after : Place → List Moment → ℕ → ℕ
+unsettled_after p [] n = n
+unsettled_after p (m ∷ ms) n = unsettled_after (next p m) ms (unsettled_next p m n)
+
+-- a moment was a writing step that was answered by want of memory or a fault of the store, no moment after it settled it, and when it came n steps were left unsettled, where there were `earlier` at first
+pub record Unsettled (p : Place) (earlier : ℕ) (history : List Moment) (n : ℕ) : Type 0 where
   pub before : List Moment
   pub entry : Entry
   pub behind : List Moment
   pub is : history ≡ before ++ took entry ∷ behind
-  pub number : n ≡ p.number + length before
+  pub count : n ≡ unsettled_after p before earlier
   pub writing : writes (place_after p before).state entry.0.step ≡ true
   pub refused : (entry.1.answer ≡ answer.NoMemory) ⊎ (entry.1.answer ≡ answer.StoreFault)
   pub stands : NoneSettles (next (place_after p before) (took entry)) behind
 
 -- an opening there may find that step done, and then the state is what was due at the step's own place, with its event
-pub record FindsDone (p : Place) (history : List Moment) (n fault : ℕ) (u : Unsettled p history n) : Type 0 where
+pub record FindsDone (p : Place) (history : List Moment) (n fault : ℕ) (u : Unsettled p 0 history n) : Type 0 where
   pub may : MayFollow (place_after p history) (reopened (Some n) fault)
   pub state : (next (place_after p history) (reopened (Some n) fault)).state ≡ durable (due (place_after p u.before).state u.entry.0.caller u.entry.0.step).state
   pub events : events_at (place_after p history) (reopened (Some n) fault) ≡ option_to_list (event_of (place_after p u.before).state u.entry.0.step)
 
--- An opening finds only such a step done.
+-- An opening finds only such a step done, named by how many stood unsettled before it.
 abbrev pub OnlyUnsettledAreFound : Type 0
-OnlyUnsettledAreFound = (s : Start) (history : List Moment) (n fault : ℕ) → MayFollow (place_after (place_of s) history) (reopened (Some n) fault) → Unsettled (place_of s) history n
+OnlyUnsettledAreFound = (s : Start) (history : List Moment) (n fault : ℕ) → MayFollow (place_after (place_of s) history) (reopened (Some n) fault) → Unsettled (place_of s) 0 history n
 
 -- And each such step may be found done.
 abbrev pub AllUnsettledAreFound : Type 0
-AllUnsettledAreFound = (s : Start) (history : List Moment) (n fault : ℕ) (u : Unsettled (place_of s) history n) → FindsDone (place_of s) history n fault u
+AllUnsettledAreFound = (s : Start) (history : List Moment) (n fault : ℕ) (u : Unsettled (place_of s) 0 history n) → FindsDone (place_of s) history n fault u
 
 -- ---- which steps write
 

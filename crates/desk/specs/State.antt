@@ -1,17 +1,20 @@
--- The state of a store, and what one step answers and does.
-use Rattle.std.specs.Prelude.{◌≡◌, ℕ, ◌+◌, Bool, true, false, List, [], ◌∷◌, ◌++◌, Option, None, Some}
+-- The state of a store, and what one step answers, writes and does.
+use Rattle.std.specs.Prelude.{◌≡◌, ℕ, ◌+◌, Bool, true, false, List, [], ◌∷◌, ◌++◌, Option, None, Some, is_some, if◌then◌else◌}
+use Rattle.cat_types.specs.declared.calls.Call.{Call}
 use Rattle.cat_types.specs.declared.changes.Change.{Change}
 use Rattle.cat_types.specs.declared.changes.Event.{Event}
+use Rattle.cat_types.specs.declared.replies.Reply.{Reply}
 use Rattle.cat_types.specs.declared.steps.Answer.{Answer}
 use Rattle.cat_types.specs.declared.steps.Answer.TheVariants as answer
 use Rattle.cat_types.specs.declared.steps.Step.{Step}
 use Rattle.cat_types.specs.declared.steps.Step.TheVariants.{Client}
 use Rattle.catalogue.specs.Catalogue.{Catalogue, new_catalogue}
-use Rattle.catalogue.specs.Changes.{done}
+use Rattle.catalogue.specs.Changes.{done, has_operation}
+use Rattle.catalogue.specs.Decisions.{Decision, accepted, refused}
+use Rattle.catalogue.specs.Refusals.{refusal_reply}
 use Rattle.catalogue.specs.Rules.{decision}
 use Rattle.catalogue.specs.declared.bars.Bars.{Bars}
-use Rattle.catalogue.specs.declared.decided.Decided.{Decided}
-use Rattle.catalogue.specs.declared.decided.Decided.TheVariants as decided
+use Rattle.hms_outside.specs.Causes.{Rose}
 
 -- the store's id, its catalogue, the kept events, the number of the first one that is kept, the newest event number, and the last number of a dump
 pub record State : Type 0 where
@@ -30,18 +33,62 @@ start id base = record { id = id; catalogue = new_catalogue; events = []; first 
 abbrev pub durable : State → State
 durable state = state
 
+-- what bars changes in a state; so far no state has replicas, dumps or loads
+abbrev pub bars_of : State → Bars
+bars_of state = record { replicas = []; dumping = []; loading = [] }
+
+-- what is decided of a call in a state
+abbrev pub decision_of : State → Call → ℕ → Decision
+decision_of state call moment = decision state.catalogue (bars_of state) call moment (state.newest + 1)
+
+-- ---- what a step writes
+
+-- what is written to the log of a store: an event is kept
+pub data Written : Type 0 where
+  kept : Event → Written
+
+-- the event that is kept by what is written, where there is one
+abbrev pub event_in : Option Written → Option Event
+event_in None = None
+event_in (Some (kept event)) = Some event
+
 -- the next event, which keeps a change at a moment
 abbrev pub next_event : State → ℕ → Change → Event
 next_event state moment change = record { id = state.newest + 1; moment = moment; change = change }
 
--- a change is done, and its event kept
-abbrev pub changed : State → ℕ → Change → State
-changed state moment change = record {
+-- a change is written as the next event, where it has an operation
+abbrev pub written_change : State → ℕ → Option Change → Option Written
+written_change state moment None = None
+written_change state moment (Some change) = if has_operation change then Some (kept (next_event state moment change)) else None
+
+-- what is written by a decision: the change of an accepted call
+abbrev pub written_by : Decision → State → ℕ → Option Written
+written_by (refused refusal) state moment = None
+written_by (accepted change result) state moment = written_change state moment change
+
+-- what a step writes, where it is answered as is due
+abbrev pub writing : State → Step → Option Written
+writing state (Client call moment) = written_by (decision_of state call moment) state moment
+
+-- whether a step writes
+abbrev pub writes : State → Step → Bool
+writes state step = is_some (writing state step)
+
+-- the event that a step keeps, where it is answered as is due
+abbrev pub event_of : State → Step → Option Event
+event_of state step = event_in (writing state step)
+
+-- ---- what is due
+
+-- a state with what was written: the event's change is done, and the event is kept
+abbrev pub with_written : Option Written → State → State
+with_written None state = state
+with_written (Some (kept event)) state = record {
   id = state.id;
-  catalogue = done change state.catalogue;
-  events = state.events ++ next_event state moment change ∷ [];
+  catalogue = done event.change state.catalogue;
+  events = state.events ++ event ∷ [];
   first = state.first;
-  newest = state.newest + 1;
+  newest = event.id;
   last_dump = state.last_dump;
 }
 
@@ -50,39 +97,37 @@ pub record Due : Type 0 where
   pub answer : Answer
   pub state : State
 
--- what is due by a decision: an accepted change is done and kept
-abbrev pub due_by : Decided → State → ℕ → Due
-due_by (decided.Change change reply) state moment = record { answer = answer.Reply reply; state = changed state moment change }
-due_by (decided.Reply reply) state moment = record { answer = answer.Reply reply; state = state }
-due_by decided.NoMemory state moment = record { answer = answer.NoMemory; state = state }
-
--- what bars changes; so far no state has replicas, dumps or loads
-abbrev pub bars : Bars
-bars = record { replicas = []; dumping = []; loading = [] }
+-- the reply to a call by its decision
+abbrev pub reply_by : Decision → Reply
+reply_by (refused refusal) = refusal_reply refusal
+reply_by (accepted change result) = result
 
 -- the one answer to a caller's step, and the one state behind it
 abbrev pub due : State → ℕ → Step → Due
-due state caller (Client call moment) = due_by (decision state.catalogue bars call (state.newest + 1)) state moment
+due state caller (Client call moment) = record { answer = answer.Reply (reply_by (decision_of state call moment)); state = with_written (writing state (Client call moment)) state }
 
--- the event of a decision
-abbrev pub event_by : Decided → State → ℕ → Option Event
-event_by (decided.Change change reply) state moment = Some (next_event state moment change)
-event_by other state moment = None
+-- ---- which answers may be given
 
--- the event that a step keeps, where it is answered as is due
-abbrev pub event_of : State → Step → Option Event
-event_of state (Client call moment) = event_by (decision state.catalogue bars call (state.newest + 1)) state moment
+-- the step was refused by a fault or for memory, and its state stays
+abbrev pub is_refused : Answer → Bool
+is_refused answer.NoMemory = true
+is_refused answer.StoreFault = true
+is_refused (answer.Reply reply) = false
 
-abbrev pub changes : Decided → Bool
-changes (decided.Change change reply) = true
-changes other = false
+-- whether a step may be answered want of memory
+abbrev pub may_want : Step → Bool
+may_want (Client call moment) = true
 
--- whether a step changes what is on the disks
-abbrev pub writes : State → Step → Bool
-writes state (Client call moment) = changes (decision state.catalogue bars call (state.newest + 1))
+-- an answer that a step in a state may be given, with the fault numbers before and after it: what is due; or want of memory; or a fault of the store, to a step that writes, where the fault number rose
+abbrev pub MayAnswer : State → ℕ → ℕ → Step → Answer → ℕ → Type 0
+MayAnswer state before caller step answer.NoMemory after = may_want step ≡ true
+MayAnswer state before caller step answer.StoreFault after = (writes state step ≡ true) × Rose before after
+MayAnswer state before caller step (answer.Reply reply) after = answer.Reply reply ≡ (due state caller step).answer
 
--- one step of a store that has no disk: what is due, or want of memory and nothing changed
+-- the state after a step that was given this answer: a refused step leaves it, any other has done what is due
+abbrev pub state_after_answer : State → ℕ → Step → Answer → State
+state_after_answer state caller step given = if is_refused given then state else (due state caller step).state
+
+-- one step of a store that has no disk, and so counts no faults
 abbrev pub Takes : State → ℕ → Step → Answer → State → Type 0
-Takes old caller step answer.NoMemory new = new ≡ old
-Takes old caller step answer.StoreFault new = ⊥
-Takes old caller step (answer.Reply reply) new = (answer.Reply reply ≡ (due old caller step).answer) × (new ≡ (due old caller step).state)
+Takes old caller step given new = MayAnswer old 0 caller step given 0 × (new ≡ state_after_answer old caller step given)

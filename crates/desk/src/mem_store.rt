@@ -1,9 +1,9 @@
 //! What a store in memory keeps.
 
-ghost use Rattle.std.specs.Prelude.{◌≡◌, ◌≤◌, ◌<◌, IfOk, OnErr, OnOk};
+ghost use Rattle.std.specs.Prelude.{◌≡◌, ◌+◌, ◌≤◌, true, IfOk, OnErr, OnOk, Some};
 ghost use Rattle.cat_types.specs.declared.steps.Step.TheVariants.{Client};
-ghost use Rattle.catalogue.specs.Changes.{Creates};
-ghost use Rattle.desk.specs.State.{Takes, changed, start};
+ghost use Rattle.catalogue.specs.Changes.{takes_change};
+ghost use Rattle.desk.specs.State.{Takes, kept, next_event, start, with_written};
 
 use cat_types::{Answer, Call, Change, Event, ListOf, NoMemory, Step};
 use catalogue::{Bars, Cat, Decided, LAST_EVENT, decide};
@@ -80,9 +80,8 @@ impl MemStore {
 
     // Does a change, and keeps its event.
     fn accept(&mut self, change: Change, moment: u64) -> Result<(), NoMemory>
-        requires creates { Creates change self.old.catalogue }
-        requires room { self.old.newest < 9223372036854775807 }
-        ensures ok { OnOk result (self.new ≡ changed self.old moment change) }
+        requires { takes_change self.old.catalogue (self.old.newest + 1) change ≡ true }
+        ensures ok { OnOk result (self.new ≡ with_written (Some (kept (next_event self.old moment change))) self.old) }
         ensures err { OnErr result (self.new ≡ self.old) }
     {
         let placed = self.cat.place(&change)?;

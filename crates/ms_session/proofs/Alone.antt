@@ -13,9 +13,11 @@ use Rattle.cat_types.specs.declared.steps.Answer.TheVariants as answer
 use Rattle.cat_types.specs.declared.steps.Step.{Step}
 use Rattle.cat_types.specs.declared.steps.Step.TheVariants as step
 use Rattle.catalogue.specs.Catalogue.{Catalogue, database, new_catalogue}
-use Rattle.catalogue.specs.Rules.{decided_as, lower}
-use Rattle.desk.specs.History.{Entry, IsLegal, MayAnswer, MayFollow, Place, is_refused, next, place_of, took}
-use Rattle.desk.specs.State.{State, due, due_by, start}
+use Rattle.catalogue.specs.Decisions.{decided_by}
+use Rattle.catalogue.specs.Rules.{first_refusal, lower}
+use Rattle.catalogue.specs.declared.refusal.Refusal.TheVariants.{NoSuchObject}
+use Rattle.desk.specs.History.{Entry, IsLegal, MayFollow, Place, next, place_of, took}
+use Rattle.desk.specs.State.{State, MayAnswer, due, start, state_after_answer, with_written, written_by}
 use Rattle.ms_calls.specs.declared.request.Asked.{Asked}
 use Rattle.ms_calls.specs.declared.request.Asked.TheVariants as ask
 use Rattle.ms_calls.specs.Refusals.{out_of_memory}
@@ -28,13 +30,13 @@ abbrev names : List (List ℕ)
 names = codes "default" ∷ []
 
 -- a listing is answered by the names, or by want of memory
-listed : (p : Place) (caller moment fault : ℕ) (a : Answer) → p.state.catalogue ≡ new_catalogue → MayAnswer p caller (step.Client GetAllDatabases moment) a fault → (due : Reply) → IsReplyTo a due → (due ≡ Names names) ⊎ (due ≡ out_of_memory)
+listed : (p : Place) (caller moment fault : ℕ) (a : Answer) → p.state.catalogue ≡ new_catalogue → MayAnswer p.state p.fault caller (step.Client GetAllDatabases moment) a fault → (due : Reply) → IsReplyTo a due → (due ≡ Names names) ⊎ (due ≡ out_of_memory)
 listed p caller moment fault answer.NoMemory new may due is = inr is
 listed p caller moment fault answer.StoreFault new may due is = absurd (false≢true may.0)
 listed p caller moment fault (answer.Reply r) new may due is = inl (is ∙ ap reply_in may ∙ ap (λ (cat : Catalogue). Names (keys_of cat.databases)) new)
 
 -- a call that makes no database leaves the state
-found_leaves : (there : Bool) (r : Reply) (state : State) (moment : ℕ) → (due_by (decided_as (cond there None (Some 2)) None r) state moment).state ≡ state
+found_leaves : (there : Bool) (r : Reply) (state : State) (moment : ℕ) → with_written (written_by (decided_by (first_refusal (cond there None (Some NoSuchObject)) None) None r) state moment) state ≡ state
 found_leaves true r state moment = refl
 found_leaves false r state moment = refl
 
@@ -43,18 +45,18 @@ due_leaves state caller GetAllDatabases moment none = refl
 due_leaves state caller (GetDatabase name) moment none = found_leaves (is_some (database state.catalogue (lower name))) _ state moment
 due_leaves state caller (CreateDatabase db) moment none = absurd none
 
-left_as_it_was : (p : Place) (caller : ℕ) (call : Call) (moment : ℕ) (a : Answer) → MakesNone (ask.Client call) → cond (is_refused a) p.state (due p.state caller (step.Client call moment)).state ≡ p.state
+left_as_it_was : (p : Place) (caller : ℕ) (call : Call) (moment : ℕ) (a : Answer) → MakesNone (ask.Client call) → state_after_answer p.state caller (step.Client call moment) a ≡ p.state
 left_as_it_was p caller call moment answer.NoMemory none = refl
 left_as_it_was p caller call moment answer.StoreFault none = refl
 left_as_it_was p caller call moment (answer.Reply r) none = due_leaves p.state caller call moment none
 
 stays_new : (p : Place) (e : Entry) (call : Call) (moment : ℕ) → p.state.catalogue ≡ new_catalogue → e.0.step ≡ step.Client call moment → MakesNone (ask.Client call) → (next p (took e)).state.catalogue ≡ new_catalogue
 stays_new p e call moment new is none =
-    ap (λ (s : Step). (cond (is_refused e.1.answer) p.state (due p.state e.0.caller s).state).catalogue) is ∙ ap (λ (s : State). s.catalogue) (left_as_it_was p e.0.caller call moment e.1.answer none) ∙ new
+    ap (λ (s : Step). (state_after_answer p.state e.0.caller s e.1.answer).catalogue) is ∙ ap (λ (s : State). s.catalogue) (left_as_it_was p e.0.caller call moment e.1.answer none) ∙ new
 
 -- one entry that lists
 one_listing : (p : Place) (e : Entry) (moment : ℕ) → p.state.catalogue ≡ new_catalogue → e.0.step ≡ step.Client GetAllDatabases moment → MayFollow p (took e) → (due : Reply) → IsReplyTo e.1.answer due → (due ≡ Names names) ⊎ (due ≡ out_of_memory)
-one_listing p e moment new is may = listed p e.0.caller moment e.1.fault e.1.answer new (subst (λ (s : Step). MayAnswer p e.0.caller s e.1.answer e.1.fault) is may.1)
+one_listing p e moment new is may = listed p e.0.caller moment e.1.fault e.1.answer new (subst (λ (s : Step). MayAnswer p.state p.fault e.0.caller s e.1.answer e.1.fault) is may.1)
 
 -- what is sent in place of what is due is want of memory
 instead : (due reply wanted : Reply) → (due ≡ wanted) ⊎ (due ≡ out_of_memory) → (reply ≡ due) ⊎ (reply ≡ out_of_memory) → (reply ≡ wanted) ⊎ (reply ≡ out_of_memory)

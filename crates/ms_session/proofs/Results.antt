@@ -14,9 +14,11 @@ use Rattle.cat_types.specs.declared.steps.Step.TheVariants as step
 use Rattle.catalogue.specs.Catalogue.{database, has_database}
 use Rattle.cat_types.specs.declared.changes.EventKind.TheVariants as kind
 use Rattle.cat_types.specs.declared.changes.Op.TheVariants.{PutDb}
-use Rattle.catalogue.specs.Rules.{decided_as, is_named, kept_name, kept_record, lower, shown_as}
-use Rattle.desk.specs.History.{Entry, IsLegal, Legal, MayAnswer, MayFollow, Place, Start, next, place_of, took}
-use Rattle.desk.specs.State.{State, bars, due_by}
+use Rattle.catalogue.specs.Decisions.{decided_by}
+use Rattle.catalogue.specs.Rules.{first_refusal, is_named, kept_name, kept_record, lower, shown_as}
+use Rattle.catalogue.specs.declared.refusal.Refusal.TheVariants.{AlreadyExists, EventNumbersUsedUp, InvalidObject, NoSuchObject}
+use Rattle.desk.specs.History.{Entry, IsLegal, Legal, MayFollow, Place, Start, next, place_of, took}
+use Rattle.desk.specs.State.{State, MayAnswer, bars_of, reply_by}
 use Rattle.ms_calls.specs.declared.method.Method.{Method}
 use Rattle.ms_calls.specs.declared.method.Method.TheVariants as method
 use Rattle.ms_calls.specs.Asked.{CameAs, IsMethodOf}
@@ -51,35 +53,35 @@ only_replies a (Err e) is = tt
 same_can : (m : Method) (r s : Reply) → answer.Reply r ≡ answer.Reply s → CanReply (Some m) s → CanReply (Some m) r
 same_can m r s is can = subst (CanReply (Some m)) (sym (ap reply_in is)) can
 
-got : {R : Type 0} (held : Option R) (shown : Option R → Reply) (state : State) (moment : ℕ) (r : Reply) → ((found : R) → CanReply (Some method.GetDatabase) (shown (Some found)))
-    → answer.Reply r ≡ (due_by (decided_as (cond (is_some held) None (Some 2)) None (shown held)) state moment).answer → CanReply (Some method.GetDatabase) r
-got None shown state moment r can is = same_can method.GetDatabase r _ is refl
-got (Some found) shown state moment r can is = same_can method.GetDatabase r _ is (can found)
+got : {R : Type 0} (held : Option R) (shown : Option R → Reply) (r : Reply) → ((found : R) → CanReply (Some method.GetDatabase) (shown (Some found)))
+    → answer.Reply r ≡ answer.Reply (reply_by (decided_by (first_refusal (cond (is_some held) None (Some NoSuchObject)) None) None (shown held))) → CanReply (Some method.GetDatabase) r
+got None shown r can is = same_can method.GetDatabase r _ is refl
+got (Some found) shown r can is = same_can method.GetDatabase r _ is (can found)
 
-made : (unnamed there full out : Bool) (change : Change) (state : State) (moment : ℕ) (r : Reply)
-    → answer.Reply r ≡ (due_by (decided_as (cond unnamed (Some 3) (cond there (Some 1) (cond full (Some 3) (cond out (Some 12) None)))) (Some change) Nothing) state moment).answer → CanReply (Some method.CreateDatabase) r
-made true there full out change state moment r is = same_can method.CreateDatabase r _ is refl
-made false true full out change state moment r is = same_can method.CreateDatabase r _ is refl
-made false false true out change state moment r is = same_can method.CreateDatabase r _ is refl
-made false false false true change state moment r is = same_can method.CreateDatabase r _ is refl
-made false false false false change state moment r is = same_can method.CreateDatabase r _ is refl
+made : (unnamed there full out : Bool) (change : Change) (r : Reply)
+    → answer.Reply r ≡ answer.Reply (reply_by (decided_by (first_refusal (cond unnamed (Some InvalidObject) (cond there (Some AlreadyExists) (cond full (Some InvalidObject) None))) (cond out (Some EventNumbersUsedUp) None)) (Some change) Nothing)) → CanReply (Some method.CreateDatabase) r
+made true there full out change r is = same_can method.CreateDatabase r _ is refl
+made false true full out change r is = same_can method.CreateDatabase r _ is refl
+made false false true out change r is = same_can method.CreateDatabase r _ is refl
+made false false false true change r is = same_can method.CreateDatabase r _ is refl
+made false false false false change r is = same_can method.CreateDatabase r _ is refl
 
 -- what a call is answered under the one name that it has
-by_call : (p : Place) (caller : ℕ) (call : Call) (moment : ℕ) (a : Answer) (fault : ℕ) (m : Method) → IsMethodOf call m → MayAnswer p caller (step.Client call moment) a fault → CanReply (Some m) (reply_in a)
+by_call : (p : Place) (caller : ℕ) (call : Call) (moment : ℕ) (a : Answer) (fault : ℕ) (m : Method) → IsMethodOf call m → MayAnswer p.state p.fault caller (step.Client call moment) a fault → CanReply (Some m) (reply_in a)
 by_call p caller call moment answer.NoMemory fault m is may = refl
 by_call p caller GetAllDatabases moment answer.StoreFault fault m is may = subst (λ (n : Method). CanReply (Some n) store_fault) (sym is) refl
 by_call p caller (GetDatabase name) moment answer.StoreFault fault m is may = subst (λ (n : Method). CanReply (Some n) store_fault) (sym is) refl
 by_call p caller (CreateDatabase db) moment answer.StoreFault fault m is may = subst (λ (n : Method). CanReply (Some n) store_fault) (sym is) refl
 by_call p caller GetAllDatabases moment (answer.Reply r) fault m is may = subst (λ (n : Method). CanReply (Some n) r) (sym is) (same_can method.GetAllDatabases r _ may refl)
 by_call p caller (GetDatabase name) moment (answer.Reply r) fault m is may =
-    subst (λ (n : Method). CanReply (Some n) r) (sym is) (got (database p.state.catalogue (lower name)) (λ held. shown_as held bars.replicas (lower name)) p.state moment r (λ found. refl) may)
+    subst (λ (n : Method). CanReply (Some n) r) (sym is) (got (database p.state.catalogue (lower name)) (λ held. shown_as held (bars_of p.state).replicas (lower name)) r (λ found. refl) may)
 by_call p caller (CreateDatabase db) moment (answer.Reply r) fault m is may =
     let next = p.state.newest + 1 in
     subst (λ (n : Method). CanReply (Some n) r) (sym is)
     (made (not (is_named db.name)) (has_database p.state.catalogue (kept_name db.name)) (nat_le 1000000 (length p.state.catalogue.databases)) (nat_lt 9223372036854775807 next)
-    (record { kind = kind.CreateDatabase; db = kept_name db.name; db_born = next; ops = PutDb (kept_record db.rec) ∷ [] }) p.state moment r may)
+    (record { kind = kind.CreateDatabase; db = kept_name db.name; db_born = next; ops = PutDb (kept_record db.rec) ∷ [] }) r may)
 
-can_answer : (p : Place) (caller : ℕ) (call : Call) (moment : ℕ) (a : Answer) (fault : ℕ) (m : Option Method) → CameAs m call → MayAnswer p caller (step.Client call moment) a fault → CanReply m (reply_in a)
+can_answer : (p : Place) (caller : ℕ) (call : Call) (moment : ℕ) (a : Answer) (fault : ℕ) (m : Option Method) → CameAs m call → MayAnswer p.state p.fault caller (step.Client call moment) a fault → CanReply m (reply_in a)
 can_answer p caller call moment a fault None came may = absurd came
 can_answer p caller call moment a fault (Some m) came may = by_call p caller call moment a fault m came may
 
@@ -95,7 +97,7 @@ pub can_call : {E : Type 0} (s : Start) (old between new : List Entry) (e : Entr
 can_call s old between new e call moment (Err x) is grew legal replied m came = tt
 can_call s old between new e call moment (Ok reply) is grew legal replied m came =
     let last = last_may (place_of s) (old ++ between) e (subst (λ (es : List Entry). Legal s es) grew legal) in
-    let may = subst (λ (t : Step). MayAnswer last.0 e.0.caller t e.1.answer e.1.fault) is last.1.1 in
+    let may = subst (λ (t : Step). MayAnswer last.0.state last.0.fault e.0.caller t e.1.answer e.1.fault) is last.1.1 in
     subst (CanReply m) (sym (only_reply e.1.answer reply replied)) (can_answer last.0 e.0.caller call moment e.1.answer e.1.fault m came may)
 
 -- a refusal that every call may be answered

@@ -1,8 +1,9 @@
-//! What no session shows of a catalogue: a live replica's position, and a change that is taken back.
+//! What no session shows of a catalogue: a live replica's position, a change that is taken back, and
+//! the refusals that no call gives yet.
 
 use crate::stores::create;
 use cat_types::{Call, ListOf, Params, Reply, Text};
-use catalogue::{Bars, Cat, Decided, Placed, ReplicaAt, decide};
+use catalogue::{Bars, Cat, Decided, Placed, Refusal, ReplicaAt, decide};
 use std::alloc::Global;
 use std::test::Fail;
 
@@ -67,5 +68,46 @@ fn a_placed_change_is_taken_back(rt: HostRuntime) -> Result<(), Fail> {
     assert_eq!(rt; cat.db_count(), 2);
     cat.take_back(placed);
     assert_eq!(rt; cat.db_count(), 1);
+    Ok(())
+}
+
+// A line for each refusal: its number and its text.
+fn told(alloc: Global, refusals: &[Refusal]) -> Result<String, Fail> {
+    let mut lines = String::new(alloc);
+    for refusal in refusals {
+        let line = format!(in alloc; "{} {}\n", refusal.number(), refusal.text())?;
+        lines.push_str(line.as_str())?;
+    }
+    Ok(lines)
+}
+
+#[test]
+fn refusals_have_numbers_and_texts(rt: HostRuntime) -> Result<(), Fail> {
+    let first = told(
+        rt.alloc(),
+        &[
+            Refusal::AlreadyExists,
+            Refusal::NoSuchObject,
+            Refusal::InvalidObject,
+            Refusal::InvalidOperation,
+        ],
+    )?;
+    assert_eq!(rt;
+        first.as_str(),
+        "1 already exists\n2 no such object\n3 invalid object\n4 invalid operation\n"
+    );
+    let last = told(
+        rt.alloc(),
+        &[
+            Refusal::InvalidInput,
+            Refusal::IsReplica,
+            Refusal::EventNumbersUsedUp,
+            Refusal::InvalidRequest,
+        ],
+    )?;
+    assert_eq!(rt;
+        last.as_str(),
+        "5 invalid input\n7 database is a replica\n12 event numbers used up\n13 invalid request\n"
+    );
     Ok(())
 }
