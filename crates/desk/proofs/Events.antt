@@ -7,7 +7,7 @@ use Rattle.cat_types.specs.declared.steps.Step.{Step}
 use Rattle.cat_types.specs.declared.steps.Step.TheVariants.{Client}
 use Rattle.catalogue.specs.Catalogue.{Catalogue}
 use Rattle.catalogue.specs.Changes.{done}
-use Rattle.desk.specs.History.{Left, Moment, Place, took, reopened, event_found, events_at, events_from, found, left_at, next, place_after, place_of, state_found}
+use Rattle.desk.specs.History.{Pending, Transition, Point, took, reopened, event_found, events_at, events_from, found, pending_at, next, point_after, point_of, state_found}
 use Rattle.desk.specs.Laws.{ChangesAndEventsStandTogether, Leads, Numbered, catalogue_after}
 use Rattle.desk.specs.State.{State, Written, due, event_in, event_of, is_refused, kept, with_written, writes, writing}
 use Rattle.desk.proofs.Writing.{IsNext, is_next, none_kept}
@@ -45,59 +45,59 @@ after_taken : (old : State) (events : List Event) (s : State) (caller : ℕ) (st
 after_taken old events s caller (Client call moment) h = after_written old events s (writing s (Client call moment)) (is_next s (Client call moment)) h
 
 -- to each step that may be found done its event would lead too
-abbrev AllLead : State → List Event → List Left → Type 0
+abbrev AllLead : State → List Event → List Pending → Type 0
 AllLead old events [] = Unit {0}
 AllLead old events (l ∷ ls) = Leads old (events ++ option_to_list l.event) l.state × AllLead old events ls
 
-record Well (old : State) (events : List Event) (p : Place) : Type 0 where
+record Well (old : State) (events : List Event) (p : Point) : Type 0 where
   here : Leads old events p.state
-  left : AllLead old events p.left
+  left : AllLead old events p.pending
 
-all_push : (old : State) (events : List Event) (ls : List Left) (l : Left) → AllLead old events ls → Leads old (events ++ option_to_list l.event) l.state → AllLead old events (ls ++ l ∷ [])
+all_push : (old : State) (events : List Event) (ls : List Pending) (l : Pending) → AllLead old events ls → Leads old (events ++ option_to_list l.event) l.state → AllLead old events (ls ++ l ∷ [])
 all_push old events [] l all one = (one, tt)
 all_push old events (x ∷ ls) l all one = (all.0, all_push old events ls l all.1 one)
 
-one_found : (old : State) (events : List Event) (n : ℕ) (ls : List Left) (l : Left) → AllLead old events ls → found n ls ≡ Some l → Leads old (events ++ option_to_list l.event) l.state
+one_found : (old : State) (events : List Event) (n : ℕ) (ls : List Pending) (l : Pending) → AllLead old events ls → found n ls ≡ Some l → Leads old (events ++ option_to_list l.event) l.state
 one_found old events n [] l all is = absurd cc
-one_found old events zero (x ∷ ls) l all is = let e : x ≡ l = cc in subst (λ (y : Left). Leads old (events ++ option_to_list y.event) y.state) e all.0
+one_found old events zero (x ∷ ls) l all is = let e : x ≡ l = cc in subst (λ (y : Pending). Leads old (events ++ option_to_list y.event) y.state) e all.0
 one_found old events (suc n) (x ∷ ls) l all is = one_found old events n ls l all.1 is
 
 -- an entry, by whether it was refused and whether it writes
-took_on : (old : State) (events : List Event) (p : Place) (caller : ℕ) (step : Step) (refused writing : Bool) → writes p.state step ≡ writing → Well old events p
+took_on : (old : State) (events : List Event) (p : Point) (caller : ℕ) (step : Step) (refused writing : Bool) → writes p.state step ≡ writing → Well old events p
     → Leads old (events ++ cond refused [] (option_to_list (event_of p.state step))) (cond refused p.state (due p.state caller step).state)
     × AllLead old (events ++ cond refused [] (option_to_list (event_of p.state step)))
-    (cond writing (cond refused (p.left ++ left_at p.state caller step ∷ []) []) p.left)
+    (cond writing (cond refused (p.pending ++ pending_at p.state caller step ∷ []) []) p.pending)
 took_on old events p caller step true true is h = (
   same old events p.state h.here,
-  subst (λ (l : List Event). AllLead old l (p.left ++ left_at p.state caller step ∷ [])) (sym (append-nil events)) (all_push old events p.left (left_at p.state caller step) h.left (after_taken old events p.state caller step h.here)),
+  subst (λ (l : List Event). AllLead old l (p.pending ++ pending_at p.state caller step ∷ [])) (sym (append-nil events)) (all_push old events p.pending (pending_at p.state caller step) h.left (after_taken old events p.state caller step h.here)),
 )
-took_on old events p caller step true false is h = (same old events p.state h.here, subst (λ (l : List Event). AllLead old l p.left) (sym (append-nil events)) h.left)
+took_on old events p caller step true false is h = (same old events p.state h.here, subst (λ (l : List Event). AllLead old l p.pending) (sym (append-nil events)) h.left)
 took_on old events p caller step false true is h = (after_taken old events p.state caller step h.here, tt)
 took_on old events p caller step false false is h =
     let none : events ++ option_to_list (event_of p.state step) ≡ events = ap (λ (o : Option Event). events ++ option_to_list o) (none_kept p.state step is) ∙ append-nil events in
-    (after_taken old events p.state caller step h.here, subst (λ (l : List Event). AllLead old l p.left) (sym none) h.left)
+    (after_taken old events p.state caller step h.here, subst (λ (l : List Event). AllLead old l p.pending) (sym none) h.left)
 
 -- an opening, by what it found
-opened_on : (old : State) (events : List Event) (p : Place) (n : ℕ) (o : Option Left) → found n p.left ≡ o → Well old events p → Leads old (events ++ option_to_list (event_found o)) (state_found p.state o)
+opened_on : (old : State) (events : List Event) (p : Point) (n : ℕ) (o : Option Pending) → found n p.pending ≡ o → Well old events p → Leads old (events ++ option_to_list (event_found o)) (state_found p.state o)
 opened_on old events p n None is h = same old events p.state h.here
-opened_on old events p n (Some l) is h = one_found old events n p.left l h.left is
+opened_on old events p n (Some l) is h = one_found old events n p.pending l h.left is
 
-goes_on : (old : State) (events : List Event) (p : Place) (m : Moment) → Well old events p → Well old (events ++ events_at p m) (next p m)
+goes_on : (old : State) (events : List Event) (p : Point) (m : Transition) → Well old events p → Well old (events ++ events_at p m) (next p m)
 goes_on old events p (took e) h =
     let r = took_on old events p e.0.caller e.0.step (is_refused e.1.answer) (writes p.state e.0.step) refl h in
     record { here = r.0; left = r.1 }
 goes_on old events p (reopened None fault) h = record { here = same old events p.state h.here; left = tt }
-goes_on old events p (reopened (Some n) fault) h = record { here = opened_on old events p n (found n p.left) refl h; left = tt }
+goes_on old events p (reopened (Some n) fault) h = record { here = opened_on old events p n (found n p.pending) refl h; left = tt }
 
-all_along : (old : State) (events : List Event) (p : Place) (ms : List Moment) → Well old events p → Leads old (events ++ events_from p ms) (place_after p ms).state
+all_along : (old : State) (events : List Event) (p : Point) (ms : List Transition) → Well old events p → Leads old (events ++ events_from p ms) (point_after p ms).state
 all_along old events p [] h = same old events p.state h.here
 all_along old events p (m ∷ ms) h =
-    subst (λ (l : List Event). Leads old l (place_after (next p m) ms).state) (append_assoc events (events_at p m) (events_from (next p m) ms))
+    subst (λ (l : List Event). Leads old l (point_after (next p m) ms).state) (append_assoc events (events_at p m) (events_from (next p m) ms))
     (all_along old (events ++ events_at p m) (next p m) ms (goes_on old events p m h))
 
 pub always_together : ChangesAndEventsStandTogether
 always_together s ms =
-    all_along s.state [] (place_of s) ms (record {
+    all_along s.state [] (point_of s) ms (record {
       here = record { catalogue = refl; kept = sym (append-nil s.state.events); numbered = tt; newest = omega arith; id = refl; first = refl; dumped = omega arith };
       left = tt;
     })

@@ -14,7 +14,7 @@ use Rattle.cat_types.specs.declared.changes.Op.{Op}
 use Rattle.cat_types.specs.declared.changes.Op.TheVariants.{DropDb, DropPart, DropTable, MovePart, MoveTable, PutDb, PutPart, PutTable}
 use Rattle.catalogue.specs.Catalogue.{Catalogue, new_catalogue}
 use Rattle.catalogue.specs.Changes.{done, done_op, done_ops}
-use Rattle.desk.specs.History.{events_from, place_of}
+use Rattle.desk.specs.History.{events_from, point_of}
 use Rattle.desk.specs.Laws.{NamesGoOnRising, NamesRise, NamesOfNewStoresRise, catalogue_after}
 use Rattle.desk.specs.State.{start}
 use Rattle.desk.proofs.Events.{always_together}
@@ -75,7 +75,7 @@ after_events cat (e ∷ es) rise = after_events (done e.change cat) es (after_op
 
 pub go_on_rising : NamesGoOnRising
 go_on_rising s ms rise =
-    subst (λ (c : Catalogue). NamesRise c) (sym (always_together s ms).catalogue) (after_events s.state.catalogue (events_from (place_of s) ms) rise)
+    subst (λ (c : Catalogue). NamesRise c) (sym (always_together s ms).catalogue) (after_events s.state.catalogue (events_from (point_of s) ms) rise)
 
 new_rise : NamesRise new_catalogue
 unfolding IsStrictlySortedBy

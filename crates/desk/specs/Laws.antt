@@ -9,7 +9,7 @@ use Rattle.cat_types.specs.declared.steps.Answer.TheVariants as answer
 use Rattle.cat_types.specs.declared.steps.Step.{Step}
 use Rattle.catalogue.specs.Catalogue.{Catalogue}
 use Rattle.catalogue.specs.Changes.{done}
-use Rattle.desk.specs.History.{Entry, Moment, took, reopened, Place, Start, MayFollow, events_at, events_from, next, place_after, place_of}
+use Rattle.desk.specs.History.{Entry, Transition, took, reopened, Point, Start, MayFollow, events_at, events_from, next, point_after, point_of}
 use Rattle.desk.specs.State.{State, due, durable, event_of, is_refused, start, writes}
 
 -- ---- a change and its event
@@ -19,12 +19,12 @@ abbrev pub catalogue_after : Catalogue → List Event → Catalogue
 catalogue_after cat [] = cat
 catalogue_after cat (e ∷ es) = catalogue_after (done e.change cat) es
 
--- the events are numbered one after the other, behind this number
+-- the events are numbered one after the other, after this number
 abbrev pub Numbered : ℕ → List Event → Type 0
 Numbered before [] = Unit {0}
 Numbered before (e ∷ es) = (e.id ≡ before + 1) × Numbered (before + 1) es
 
--- these events lead from one state to another: its catalogue is what they make, it keeps them behind those kept before, and its newest number is the last of theirs; its id and the first number stay, and the last number of a dump never falls
+-- these events lead from one state to another: its catalogue is what they make, it keeps them after those kept before, and its newest number is the last of theirs; its id and the first number stay, and the last number of a dump never falls
 pub record Leads (old : State) (events : List Event) (new : State) : Type 0 where
   pub catalogue : new.catalogue ≡ catalogue_after old.catalogue events
   pub kept : new.events ≡ old.events ++ events
@@ -34,59 +34,59 @@ pub record Leads (old : State) (events : List Event) (new : State) : Type 0 wher
   pub first : new.first ≡ old.first
   pub dumped : old.last_dump ≤ new.last_dump
 
--- A change and its event stand together: behind every history, with openings among its moments, the state is the one to which the history's events lead from its start.
+-- A change and its event stand together: after every history, with openings among its transitions, the state is the one to which the history's events lead from its start.
 abbrev pub ChangesAndEventsStandTogether : Type 0
-ChangesAndEventsStandTogether = (s : Start) (history : List Moment) → Leads s.state (events_from (place_of s) history) (place_after (place_of s) history).state
+ChangesAndEventsStandTogether = (s : Start) (history : List Transition) → Leads s.state (events_from (point_of s) history) (point_after (point_of s) history).state
 
 -- ---- what an opening finds
 
--- a moment that settles what was refused before it: an accepted writing step, or an opening
-abbrev pub settles : Place → Moment → Bool
+-- a transition that settles what was refused before it: an accepted writing step, or an opening
+abbrev pub settles : Point → Transition → Bool
 settles p (took e) = writes p.state e.0.step && not (is_refused e.1.answer)
 settles p (reopened a fault) = true
 
-abbrev pub NoneSettles : Place → List Moment → Type 0
+abbrev pub NoneSettles : Point → List Transition → Type 0
 NoneSettles p [] = Unit {0}
 NoneSettles p (m ∷ ms) = (settles p m ≡ false) × NoneSettles (next p m) ms
 
--- how many steps are left unsettled after one moment more: none after a moment that settles, and one more after a refused writing step
-abbrev pub unsettled_next : Place → Moment → ℕ → ℕ
+-- how many steps are left unsettled after one transition more: none after a transition that settles, and one more after a refused writing step
+abbrev pub unsettled_next : Point → Transition → ℕ → ℕ
 unsettled_next p (took e) n = if writes p.state e.0.step then (if is_refused e.1.answer then n + 1 else 0) else n
 unsettled_next p (reopened a fault) n = 0
 
--- how many steps are left unsettled after moments, where so many were before them
-abbrev pub unsettled_after : Place → List Moment → ℕ → ℕ
+-- how many steps are left unsettled after transitions, where so many were before them
+abbrev pub unsettled_after : Point → List Transition → ℕ → ℕ
 unsettled_after p [] n = n
 unsettled_after p (m ∷ ms) n = unsettled_after (next p m) ms (unsettled_next p m n)
 
--- a moment was a writing step that was answered by want of memory or a fault of the store, no moment after it settled it, and when it came n steps were left unsettled, where there were `earlier` at first
-pub record Unsettled (p : Place) (earlier : ℕ) (history : List Moment) (n : ℕ) : Type 0 where
-  pub before : List Moment
+-- a transition was a writing step that was answered by want of memory or a fault of the store, no transition after it settled it, and when it came n steps were left unsettled, where there were `earlier` at first
+pub record Unsettled (p : Point) (earlier : ℕ) (history : List Transition) (n : ℕ) : Type 0 where
+  pub before : List Transition
   pub entry : Entry
-  pub behind : List Moment
+  pub behind : List Transition
   pub is : history ≡ before ++ took entry ∷ behind
   pub count : n ≡ unsettled_after p before earlier
-  pub writing : writes (place_after p before).state entry.0.step ≡ true
+  pub writing : writes (point_after p before).state entry.0.step ≡ true
   pub refused : (entry.1.answer ≡ answer.NoMemory) ⊎ (entry.1.answer ≡ answer.StoreFault)
-  pub stands : NoneSettles (next (place_after p before) (took entry)) behind
+  pub stands : NoneSettles (next (point_after p before) (took entry)) behind
 
--- an opening there may find that step done, and then the state is what was due at the step's own place, with its event
-pub record FindsDone (p : Place) (history : List Moment) (n fault : ℕ) (u : Unsettled p 0 history n) : Type 0 where
-  pub may : MayFollow (place_after p history) (reopened (Some n) fault)
-  pub state : (next (place_after p history) (reopened (Some n) fault)).state ≡ durable (due (place_after p u.before).state u.entry.0.caller u.entry.0.step).state
-  pub events : events_at (place_after p history) (reopened (Some n) fault) ≡ option_to_list (event_of (place_after p u.before).state u.entry.0.step)
+-- an opening there may find that step done, and then the state is what was due at the step's own point of the history, with its event
+pub record FindsDone (p : Point) (history : List Transition) (n fault : ℕ) (u : Unsettled p 0 history n) : Type 0 where
+  pub may : MayFollow (point_after p history) (reopened (Some n) fault)
+  pub state : (next (point_after p history) (reopened (Some n) fault)).state ≡ durable (due (point_after p u.before).state u.entry.0.caller u.entry.0.step).state
+  pub events : events_at (point_after p history) (reopened (Some n) fault) ≡ option_to_list (event_of (point_after p u.before).state u.entry.0.step)
 
 -- An opening finds only such a step done, named by how many stood unsettled before it.
 abbrev pub OnlyUnsettledAreFound : Type 0
-OnlyUnsettledAreFound = (s : Start) (history : List Moment) (n fault : ℕ) → MayFollow (place_after (place_of s) history) (reopened (Some n) fault) → Unsettled (place_of s) 0 history n
+OnlyUnsettledAreFound = (s : Start) (history : List Transition) (n fault : ℕ) → MayFollow (point_after (point_of s) history) (reopened (Some n) fault) → Unsettled (point_of s) 0 history n
 
 -- And each such step may be found done.
 abbrev pub AllUnsettledAreFound : Type 0
-AllUnsettledAreFound = (s : Start) (history : List Moment) (n fault : ℕ) (u : Unsettled (place_of s) 0 history n) → FindsDone (place_of s) history n fault u
+AllUnsettledAreFound = (s : Start) (history : List Transition) (n fault : ℕ) (u : Unsettled (point_of s) 0 history n) → FindsDone (point_of s) history n fault u
 
 -- ---- which steps write
 
--- A step writes exactly where what is on the disks of the due state behind it isn't what was there before.
+-- A step writes exactly where what is on the disks of the due state after it isn't what was there before.
 abbrev pub WritesWhereTheDisksChange : Type 0
 WritesWhereTheDisksChange = (s : State) (caller : ℕ) (step : Step) → (writes s step ≡ true) ↔ (durable (due s caller step).state ≢ durable s)
 
@@ -94,12 +94,12 @@ WritesWhereTheDisksChange = (s : State) (caller : ℕ) (step : Step) → (writes
 
 -- An opening that finds no step done gives what is on the disks of the state before it.
 abbrev pub OpeningsGiveTheDisks : Type 0
-OpeningsGiveTheDisks = (p : Place) (fault : ℕ) → (next p (reopened None fault)).state ≡ durable p.state
+OpeningsGiveTheDisks = (p : Point) (fault : ℕ) → (next p (reopened None fault)).state ≡ durable p.state
 
 -- Behind an opening, whatever it finds, all of the state is on the disks.
 abbrev pub OpenedIsDurable : Type 0
-OpenedIsDurable = (s : Start) (history : List Moment) (a : Option ℕ) (fault : ℕ)
-    → durable (next (place_after (place_of s) history) (reopened a fault)).state ≡ (next (place_after (place_of s) history) (reopened a fault)).state
+OpenedIsDurable = (s : Start) (history : List Transition) (a : Option ℕ) (fault : ℕ)
+    → durable (next (point_after (point_of s) history) (reopened a fault)).state ≡ (next (point_after (point_of s) history) (reopened a fault)).state
 
 -- ---- the names of databases
 
@@ -107,11 +107,11 @@ OpenedIsDurable = (s : Start) (history : List Moment) (a : Option ℕ) (fault : 
 abbrev pub NamesRise : Catalogue → Type 0
 NamesRise cat = IsStrictlySortedBy (slice_cmp nat_cmp) (keys_of cat.databases)
 
--- Names that rise at the start rise behind every history.
+-- Names that rise at the start rise after every history.
 abbrev pub NamesGoOnRising : Type 0
-NamesGoOnRising = (s : Start) (history : List Moment) → NamesRise s.state.catalogue → NamesRise (place_after (place_of s) history).state.catalogue
+NamesGoOnRising = (s : Start) (history : List Transition) → NamesRise s.state.catalogue → NamesRise (point_after (point_of s) history).state.catalogue
 
--- Names rise behind every history of a new store.
+-- Names rise after every history of a new store.
 abbrev pub NamesOfNewStoresRise : Type 0
-NamesOfNewStoresRise = (id : List ℕ) (base fault : ℕ) (history : List Moment)
-    → NamesRise (place_after (place_of (record { state = start id base; fault = fault })) history).state.catalogue
+NamesOfNewStoresRise = (id : List ℕ) (base fault : ℕ) (history : List Transition)
+    → NamesRise (point_after (point_of (record { state = start id base; fault = fault })) history).state.catalogue

@@ -25,7 +25,7 @@ pub record State : Type 0 where
   pub newest : ℕ
   pub last_dump : ℕ
 
--- a new store: `default` alone and no events, whose numbers begin behind the base
+-- a new store: `default` alone and no events, whose numbers begin after the base
 abbrev pub start : List ℕ → ℕ → State
 start id base = record { id = id; catalogue = new_catalogue; events = []; first = base + 1; newest = base; last_dump = 0 }
 
@@ -92,7 +92,7 @@ with_written (Some (kept event)) state = record {
   last_dump = state.last_dump;
 }
 
--- one answer, and the one state behind it
+-- one answer, and the one state after it
 pub record Due : Type 0 where
   pub answer : Answer
   pub state : State
@@ -102,7 +102,7 @@ abbrev pub reply_by : Decision → Reply
 reply_by (refused refusal) = refusal_reply refusal
 reply_by (accepted change result) = result
 
--- the one answer to a caller's step, and the one state behind it
+-- the one answer to a caller's step, and the one state after it
 abbrev pub due : State → ℕ → Step → Due
 due state caller (Client call moment) = record { answer = answer.Reply (reply_by (decision_of state call moment)); state = with_written (writing state (Client call moment)) state }
 

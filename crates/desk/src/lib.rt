@@ -14,7 +14,7 @@ mod script;
 
 pub use core_trait::Core;
 pub use desk_trait::Desk;
-pub use entries::{Asked, Told};
+pub use entries::{CallerStep, Outcome};
 pub use foreign::Foreign;
 pub use laws::{
     changes_and_events_stand_together, names_rise, openings_find_refused_steps,

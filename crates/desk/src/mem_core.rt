@@ -1,7 +1,7 @@
 //! A store that lies in memory alone.
 
 use crate::mem_store::MemStore;
-use crate::{Asked, Core, Told};
+use crate::{CallerStep, Core, Outcome};
 use cat_types::{Answer, NoMemory, Step};
 use http_server::Log;
 use std::alloc::Global;
@@ -13,7 +13,7 @@ pub struct MemCore {
     store: MemStore,
     id: [u8; 16],
     base: u64,
-    log: Log<Asked, Told>,
+    log: Log<CallerStep, Outcome>,
 }
 
 impl Model for MemCore {
@@ -55,13 +55,13 @@ impl Core for MemCore {
     ghost faults = { λ _. 0 };
 
     fn turn(&mut self, caller: u32, s: Step) -> Answer {
-        let asked = Asked { caller, step: s };
-        let told = Told {
+        let asked = CallerStep { caller, step: s };
+        let told = Outcome {
             answer: self.store.take(caller, &asked.step),
             fault: 0,
         };
         self.log = self.log.and(&asked, &told);
-        let Told { answer, fault: _ } = told;
+        let Outcome { answer, fault: _ } = told;
         answer
     }
 }

@@ -16,7 +16,7 @@ use Rattle.catalogue.specs.Catalogue.{Catalogue, database, new_catalogue}
 use Rattle.catalogue.specs.Decisions.{decided_by}
 use Rattle.catalogue.specs.Rules.{first_refusal, lower}
 use Rattle.catalogue.specs.declared.refusal.Refusal.TheVariants.{NoSuchObject}
-use Rattle.desk.specs.History.{Entry, IsLegal, MayFollow, Place, next, place_of, took}
+use Rattle.desk.specs.History.{Entry, IsLegal, MayFollow, Point, next, point_of, took}
 use Rattle.desk.specs.State.{State, MayAnswer, due, start, state_after_answer, with_written, written_by}
 use Rattle.ms_calls.specs.declared.request.Asked.{Asked}
 use Rattle.ms_calls.specs.declared.request.Asked.TheVariants as ask
@@ -30,7 +30,7 @@ abbrev names : List (List ℕ)
 names = codes "default" ∷ []
 
 -- a listing is answered by the names, or by want of memory
-listed : (p : Place) (caller moment fault : ℕ) (a : Answer) → p.state.catalogue ≡ new_catalogue → MayAnswer p.state p.fault caller (step.Client GetAllDatabases moment) a fault → (due : Reply) → IsReplyTo a due → (due ≡ Names names) ⊎ (due ≡ out_of_memory)
+listed : (p : Point) (caller moment fault : ℕ) (a : Answer) → p.state.catalogue ≡ new_catalogue → MayAnswer p.state p.fault caller (step.Client GetAllDatabases moment) a fault → (due : Reply) → IsReplyTo a due → (due ≡ Names names) ⊎ (due ≡ out_of_memory)
 listed p caller moment fault answer.NoMemory new may due is = inr is
 listed p caller moment fault answer.StoreFault new may due is = absurd (false≢true may.0)
 listed p caller moment fault (answer.Reply r) new may due is = inl (is ∙ ap reply_in may ∙ ap (λ (cat : Catalogue). Names (keys_of cat.databases)) new)
@@ -45,17 +45,17 @@ due_leaves state caller GetAllDatabases moment none = refl
 due_leaves state caller (GetDatabase name) moment none = found_leaves (is_some (database state.catalogue (lower name))) _ state moment
 due_leaves state caller (CreateDatabase db) moment none = absurd none
 
-left_as_it_was : (p : Place) (caller : ℕ) (call : Call) (moment : ℕ) (a : Answer) → MakesNone (ask.Client call) → state_after_answer p.state caller (step.Client call moment) a ≡ p.state
+left_as_it_was : (p : Point) (caller : ℕ) (call : Call) (moment : ℕ) (a : Answer) → MakesNone (ask.Client call) → state_after_answer p.state caller (step.Client call moment) a ≡ p.state
 left_as_it_was p caller call moment answer.NoMemory none = refl
 left_as_it_was p caller call moment answer.StoreFault none = refl
 left_as_it_was p caller call moment (answer.Reply r) none = due_leaves p.state caller call moment none
 
-stays_new : (p : Place) (e : Entry) (call : Call) (moment : ℕ) → p.state.catalogue ≡ new_catalogue → e.0.step ≡ step.Client call moment → MakesNone (ask.Client call) → (next p (took e)).state.catalogue ≡ new_catalogue
+stays_new : (p : Point) (e : Entry) (call : Call) (moment : ℕ) → p.state.catalogue ≡ new_catalogue → e.0.step ≡ step.Client call moment → MakesNone (ask.Client call) → (next p (took e)).state.catalogue ≡ new_catalogue
 stays_new p e call moment new is none =
     ap (λ (s : Step). (state_after_answer p.state e.0.caller s e.1.answer).catalogue) is ∙ ap (λ (s : State). s.catalogue) (left_as_it_was p e.0.caller call moment e.1.answer none) ∙ new
 
 -- one entry that lists
-one_listing : (p : Place) (e : Entry) (moment : ℕ) → p.state.catalogue ≡ new_catalogue → e.0.step ≡ step.Client GetAllDatabases moment → MayFollow p (took e) → (due : Reply) → IsReplyTo e.1.answer due → (due ≡ Names names) ⊎ (due ≡ out_of_memory)
+one_listing : (p : Point) (e : Entry) (moment : ℕ) → p.state.catalogue ≡ new_catalogue → e.0.step ≡ step.Client GetAllDatabases moment → MayFollow p (took e) → (due : Reply) → IsReplyTo e.1.answer due → (due ≡ Names names) ⊎ (due ≡ out_of_memory)
 one_listing p e moment new is may = listed p e.0.caller moment e.1.fault e.1.answer new (subst (λ (s : Step). MayAnswer p.state p.fault e.0.caller s e.1.answer e.1.fault) is may.1)
 
 -- what is sent in place of what is due is want of memory
@@ -66,19 +66,19 @@ instead due reply wanted (inr none) (inl same) = inr (same ∙ none)
 
 -- one message, and where the history stands behind its entries
 abbrev Behind : List Entry → Type 0
-Behind more = (q : Place) × (q.state.catalogue ≡ new_catalogue) × IsLegal q (map took more)
+Behind more = (q : Point) × (q.state.catalogue ≡ new_catalogue) × IsLegal q (map took more)
 
 -- a call of the catalogue that makes no database
-one_call : (p : Place) (call : Call) (entries more : List Entry) (due reply : Reply) → p.state.catalogue ≡ new_catalogue → MakesNone (ask.Client call) → IsLegal p (map took (entries ++ more)) → Due (ask.Client call) entries due → Behind more
+one_call : (p : Point) (call : Call) (entries more : List Entry) (due reply : Reply) → p.state.catalogue ≡ new_catalogue → MakesNone (ask.Client call) → IsLegal p (map took (entries ++ more)) → Due (ask.Client call) entries due → Behind more
 one_call p call entries more due reply new none legal d =
     let all : IsLegal p (map took ((d.0 ∷ []) ++ more)) = subst (λ (es : List Entry). IsLegal p (map took (es ++ more))) d.2 legal in
     (next p (took d.0), stays_new p d.0 call d.1 new d.3 none, all.1)
 
 -- what is no call
-no_call : (p : Place) (entries more : List Entry) → p.state.catalogue ≡ new_catalogue → IsLegal p (map took (entries ++ more)) → entries ≡ [] → Behind more
+no_call : (p : Point) (entries more : List Entry) → p.state.catalogue ≡ new_catalogue → IsLegal p (map took (entries ++ more)) → entries ≡ [] → Behind more
 no_call p entries more new legal is = (p, new, subst (λ (es : List Entry). IsLegal p (map took (es ++ more))) is legal)
 
-one_message : (p : Place) (asked : Asked) (entries more : List Entry) (due reply : Reply) → p.state.catalogue ≡ new_catalogue → MakesNone asked → IsLegal p (map took (entries ++ more)) → Due asked entries due → (reply ≡ due) ⊎ (reply ≡ out_of_memory)
+one_message : (p : Point) (asked : Asked) (entries more : List Entry) (due reply : Reply) → p.state.catalogue ≡ new_catalogue → MakesNone asked → IsLegal p (map took (entries ++ more)) → Due asked entries due → (reply ≡ due) ⊎ (reply ≡ out_of_memory)
     → Lists names asked reply × Behind more
 one_message p (ask.Client GetAllDatabases) entries more due reply new none legal d which =
     let all : IsLegal p (map took ((d.0 ∷ []) ++ more)) = subst (λ (es : List Entry). IsLegal p (map took (es ++ more))) d.2 legal in
@@ -91,7 +91,7 @@ one_message p ask.Unknown entries more due reply new none legal d which = (tt, n
 one_message p (ask.BadArgument id) entries more due reply new none legal d which = (tt, no_call p entries more new legal d.0)
 one_message p ask.Shutdown entries more due reply new none legal d which = absurd d
 
-all_turns : (p : Place) (turns : List Turn) → p.state.catalogue ≡ new_catalogue → AllByRecursion IsTurn turns → AllByRecursion (λ (turn : Turn). MakesNone (asks turn.message)) turns → IsLegal p (map took (flat_map (λ turn. turn.entries) turns))
+all_turns : (p : Point) (turns : List Turn) → p.state.catalogue ≡ new_catalogue → AllByRecursion IsTurn turns → AllByRecursion (λ (turn : Turn). MakesNone (asks turn.message)) turns → IsLegal p (map took (flat_map (λ turn. turn.entries) turns))
     → AllByRecursion (λ (turn : Turn). Lists names (asks turn.message) turn.reply) turns
 all_turns p [] new each none legal = tt
 all_turns p (t ∷ ts) new each none legal =
@@ -100,4 +100,4 @@ all_turns p (t ∷ ts) new each none legal =
 
 pub lists_default : AloneListsDefault
 lists_default id base turns bytes clock clock' entries carried legal none =
-    all_turns (place_of (record { state = start id base; fault = 0 })) turns refl carried.each none (subst (λ (es : List Entry). IsLegal (place_of (record { state = start id base; fault = 0 })) (map took es)) carried.own legal)
+    all_turns (point_of (record { state = start id base; fault = 0 })) turns refl carried.each none (subst (λ (es : List Entry). IsLegal (point_of (record { state = start id base; fault = 0 })) (map took es)) carried.own legal)

@@ -17,7 +17,7 @@ use Rattle.cat_types.specs.declared.changes.Op.TheVariants.{PutDb}
 use Rattle.catalogue.specs.Decisions.{decided_by}
 use Rattle.catalogue.specs.Rules.{first_refusal, is_named, kept_name, kept_record, lower, shown_as}
 use Rattle.catalogue.specs.declared.refusal.Refusal.TheVariants.{AlreadyExists, EventNumbersUsedUp, InvalidObject, NoSuchObject}
-use Rattle.desk.specs.History.{Entry, IsLegal, Legal, MayFollow, Place, Start, next, place_of, took}
+use Rattle.desk.specs.History.{Entry, IsLegal, Legal, MayFollow, Point, Start, next, point_of, took}
 use Rattle.desk.specs.State.{State, MayAnswer, bars_of, reply_by}
 use Rattle.ms_calls.specs.declared.method.Method.{Method}
 use Rattle.ms_calls.specs.declared.method.Method.TheVariants as method
@@ -67,7 +67,7 @@ made false false false true change r is = same_can method.CreateDatabase r _ is 
 made false false false false change r is = same_can method.CreateDatabase r _ is refl
 
 -- what a call is answered under the one name that it has
-by_call : (p : Place) (caller : ℕ) (call : Call) (moment : ℕ) (a : Answer) (fault : ℕ) (m : Method) → IsMethodOf call m → MayAnswer p.state p.fault caller (step.Client call moment) a fault → CanReply (Some m) (reply_in a)
+by_call : (p : Point) (caller : ℕ) (call : Call) (moment : ℕ) (a : Answer) (fault : ℕ) (m : Method) → IsMethodOf call m → MayAnswer p.state p.fault caller (step.Client call moment) a fault → CanReply (Some m) (reply_in a)
 by_call p caller call moment answer.NoMemory fault m is may = refl
 by_call p caller GetAllDatabases moment answer.StoreFault fault m is may = subst (λ (n : Method). CanReply (Some n) store_fault) (sym is) refl
 by_call p caller (GetDatabase name) moment answer.StoreFault fault m is may = subst (λ (n : Method). CanReply (Some n) store_fault) (sym is) refl
@@ -81,13 +81,13 @@ by_call p caller (CreateDatabase db) moment (answer.Reply r) fault m is may =
     (made (not (is_named db.name)) (has_database p.state.catalogue (kept_name db.name)) (nat_le 1000000 (length p.state.catalogue.databases)) (nat_lt 9223372036854775807 next)
     (record { kind = kind.CreateDatabase; db = kept_name db.name; db_born = next; ops = PutDb (kept_record db.rec) ∷ [] }) r may)
 
-can_answer : (p : Place) (caller : ℕ) (call : Call) (moment : ℕ) (a : Answer) (fault : ℕ) (m : Option Method) → CameAs m call → MayAnswer p.state p.fault caller (step.Client call moment) a fault → CanReply m (reply_in a)
+can_answer : (p : Point) (caller : ℕ) (call : Call) (moment : ℕ) (a : Answer) (fault : ℕ) (m : Option Method) → CameAs m call → MayAnswer p.state p.fault caller (step.Client call moment) a fault → CanReply m (reply_in a)
 can_answer p caller call moment a fault None came may = absurd came
 can_answer p caller call moment a fault (Some m) came may = by_call p caller call moment a fault m came may
 
 -- ---- the last answer of a legal history
 
-last_may : (p : Place) (es : List Entry) (e : Entry) → IsLegal p (map took (es ++ e ∷ [])) → (q : Place) × MayFollow q (took e)
+last_may : (p : Point) (es : List Entry) (e : Entry) → IsLegal p (map took (es ++ e ∷ [])) → (q : Point) × MayFollow q (took e)
 last_may p [] e legal = (p, legal.0)
 last_may p (x ∷ xs) e legal = last_may (next p (took x)) xs e legal.1
 
@@ -96,7 +96,7 @@ pub can_call : {E : Type 0} (s : Start) (old between new : List Entry) (e : Entr
     → e.0.step ≡ step.Client call moment → new ≡ (old ++ between) ++ e ∷ [] → Legal s new → IfOk result (IsReplyTo e.1.answer) → (m : Option Method) → CameAs m call → IfOk result (CanReply m)
 can_call s old between new e call moment (Err x) is grew legal replied m came = tt
 can_call s old between new e call moment (Ok reply) is grew legal replied m came =
-    let last = last_may (place_of s) (old ++ between) e (subst (λ (es : List Entry). Legal s es) grew legal) in
+    let last = last_may (point_of s) (old ++ between) e (subst (λ (es : List Entry). Legal s es) grew legal) in
     let may = subst (λ (t : Step). MayAnswer last.0.state last.0.fault e.0.caller t e.1.answer e.1.fault) is last.1.1 in
     subst (CanReply m) (sym (only_reply e.1.answer reply replied)) (can_answer last.0 e.0.caller call moment e.1.answer e.1.fault m came may)
 

@@ -1,14 +1,14 @@
 //! A store that has no memory.
 
 use cat_types::{Answer, Step};
-use desk::{Asked, Core, Told};
+use desk::{CallerStep, Core, Outcome};
 use http_server::Log;
 use std::marker::Model;
 
 /// A new store that refuses each step for want of memory.
 #[derive(Drop)]
 pub struct Refusing {
-    log: Log<Asked, Told>,
+    log: Log<CallerStep, Outcome>,
 }
 
 impl Model for Refusing {
@@ -39,8 +39,8 @@ impl Core for Refusing {
     ghost faults = { λ _. 0 };
 
     fn turn(&mut self, caller: u32, s: Step) -> Answer {
-        let asked = Asked { caller, step: s };
-        let told = Told {
+        let asked = CallerStep { caller, step: s };
+        let told = Outcome {
             answer: Answer::NoMemory,
             fault: 0,
         };
