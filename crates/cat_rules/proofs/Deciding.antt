@@ -12,7 +12,7 @@ use Rattle.std.proofs.lemmas.Slice.Eq.{bytes_eq-Decides}
 use Rattle.cat_values.specs.declared.storage.Column.{Column}
 use Rattle.cat_values.specs.Names.{HasNameLength, has_name_length, IsObjectName, is_object_name}
 use Rattle.cat_values.proofs.NameTests.{leb-Decides, all-Decides, name_length-Decides, object_name-Decides}
-use Rattle.cat_rules.specs.Patterns.{StandsFor, BehindFront, BehindOne, Fits, Matches, alternatives, holds_of_end, stands_for, holds_behind_one, does_fit, does_match}
+use Rattle.cat_rules.specs.Patterns.{StandsFor, AfterPrefix, AfterOne, MatchesSigns, Matches, alternatives, holds_of_end, stands_for, holds_behind_one, does_fit, does_match}
 use Rattle.cat_rules.specs.Tables.{names_of, AreNamed, are_named, AreApart, are_distinct, FitTogether, do_fit_together}
 
 -- columns and keys
@@ -59,7 +59,7 @@ fit_together-Decides cols keys = Decides-like (do_fit_together cols keys)
 stands_for-Decides : (sign c : ℕ) → Decides (stands_for sign c) (StandsFor sign c)
 stands_for-Decides sign c = Decides-or _ _ (Decides-eqb sign 46) (Decides-eqb _ _)
 
-end-Decides : (test : List ℕ → Bool) (P : List ℕ → Type 0) → ((name : List ℕ) → Decides (test name) (P name)) → (name : List ℕ) → Decides (holds_of_end test name) (BehindFront P name)
+end-Decides : (test : List ℕ → Bool) (P : List ℕ → Type 0) → ((name : List ℕ) → Decides (test name) (P name)) → (name : List ℕ) → Decides (holds_of_end test name) (AfterPrefix P name)
 end-Decides test P each [] = Decides-like (test []) (λ p. ([], [], refl, p)) (λ b. whole b.0 b.1 b.2 b.3) (each [])
   where
     whole : (front rest : List ℕ) → [] ≡ front ++ rest → P rest → P []
@@ -67,27 +67,27 @@ end-Decides test P each [] = Decides-like (test []) (λ p. ([], [], refl, p)) (�
     whole (d ∷ front) rest e p = absurd (cc)
 end-Decides test P each (c ∷ name) = Decides-like (holds_of_end test (c ∷ name)) behind (λ b. split b.0 b.1 b.2 b.3) (Decides-or _ _ (each (c ∷ name)) (end-Decides test P each name))
   where
-    behind : P (c ∷ name) ⊎ BehindFront P name → BehindFront P (c ∷ name)
+    behind : P (c ∷ name) ⊎ AfterPrefix P name → AfterPrefix P (c ∷ name)
     behind (inl p) = ([], c ∷ name, refl, p)
     behind (inr b) = (c ∷ b.0, b.1, ap (λ (t : List ℕ). c ∷ t) b.2, b.3)
 
-    split : (front rest : List ℕ) → c ∷ name ≡ front ++ rest → P rest → P (c ∷ name) ⊎ BehindFront P name
+    split : (front rest : List ℕ) → c ∷ name ≡ front ++ rest → P rest → P (c ∷ name) ⊎ AfterPrefix P name
     split [] rest e p = inl (subst P (sym e) p)
     split (d ∷ front) rest e p = inr (front, rest, cc, p)
 
-one-Decides : (sign : ℕ) (test : List ℕ → Bool) (P : List ℕ → Type 0) → ((name : List ℕ) → Decides (test name) (P name)) → (name : List ℕ) → Decides (holds_behind_one sign test name) (BehindOne sign P name)
+one-Decides : (sign : ℕ) (test : List ℕ → Bool) (P : List ℕ → Type 0) → ((name : List ℕ) → Decides (test name) (P name)) → (name : List ℕ) → Decides (holds_behind_one sign test name) (AfterOne sign P name)
 one-Decides sign test P each [] = (λ e. absurd (false≢true e), λ b. (let e : [] ≡ b.0 ∷ b.1 = b.2 in absurd (cc)))
 one-Decides sign test P each (c ∷ name) = Decides-like (holds_behind_one sign test (c ∷ name))
     (λ h. (c, name, refl, h.0, h.1))
     (λ b. (let first : b.0 ≡ c = cc in let later : b.1 ≡ name = cc in (subst (λ (d : ℕ). StandsFor sign d) first b.3, subst P later b.4)))
     (Decides-and _ _ (stands_for-Decides sign c) (each name))
 
-pub fit-Decides : (signs name : List ℕ) → Decides (does_fit signs name) (Fits signs name)
+pub fit-Decides : (signs name : List ℕ) → Decides (does_fit signs name) (MatchesSigns signs name)
 fit-Decides [] [] = (λ _. refl, λ _. refl)
 fit-Decides [] (c ∷ name) = (λ e. absurd (false≢true e), λ e. absurd (cc))
-fit-Decides (sign ∷ signs) name = sign-Decides sign (does_fit signs) (Fits signs) (fit-Decides signs) name (eqb sign 42) refl
+fit-Decides (sign ∷ signs) name = sign-Decides sign (does_fit signs) (MatchesSigns signs) (fit-Decides signs) name (eqb sign 42) refl
   where
-    sign-Decides : (sign : ℕ) (test : List ℕ → Bool) (P : List ℕ → Type 0) → ((name : List ℕ) → Decides (test name) (P name)) → (name : List ℕ) (b : Bool) → eqb sign 42 ≡ b → Decides (if b then holds_of_end test name else holds_behind_one sign test name) (((sign ≡ 42) × BehindFront P name) ⊎ ((sign ≢ 42) × BehindOne sign P name))
+    sign-Decides : (sign : ℕ) (test : List ℕ → Bool) (P : List ℕ → Type 0) → ((name : List ℕ) → Decides (test name) (P name)) → (name : List ℕ) (b : Bool) → eqb sign 42 ≡ b → Decides (if b then holds_of_end test name else holds_behind_one sign test name) (((sign ≡ 42) × AfterPrefix P name) ⊎ ((sign ≢ 42) × AfterOne sign P name))
     sign-Decides sign test P each name true e = Decides-like (holds_of_end test name)
         (λ b. inl ((Decides-eqb sign 42).0 e, b))
         (λ h. elim h [ inl w ↦ w.1 | inr w ↦ absurd (w.0 ((Decides-eqb sign 42).0 e)) ])
@@ -100,7 +100,7 @@ fit-Decides (sign ∷ signs) name = sign-Decides sign (does_fit signs) (Fits sig
 pub match-Decides : (pattern name : List ℕ) → Decides (does_match pattern name) (Matches pattern name)
 match-Decides pattern name =
     let test : List ℕ → Bool = λ (a : List ℕ). does_fit (chars a) (chars name) in
-    let P : List ℕ → Type 0 = λ (a : List ℕ). Fits (chars a) (chars name) in
+    let P : List ℕ → Type 0 = λ (a : List ℕ). MatchesSigns (chars a) (chars name) in
     Decides-like (does_match pattern name)
     (λ h. (h.0, get_or (alternatives pattern) h.0 [], h.1, get_or_default (alternatives pattern) h.0 _ _ h.1, h.2 []))
     (λ m. (m.0, m.2, λ d. subst P (sym m.3 ∙ get_or_default (alternatives pattern) m.0 _ _ m.2) m.4))

@@ -11,22 +11,22 @@ abbrev pub StandsFor : ℕ → ℕ → Type 0
 StandsFor sign c = (sign ≡ 46) ⊎ (to_ascii_lowercase sign ≡ to_ascii_lowercase c)
 
 -- P holds of what is left of the name behind some front
-abbrev pub BehindFront : (List ℕ → Type 0) → List ℕ → Type 0
-BehindFront P name = (front rest : List ℕ) × (name ≡ front ++ rest) × P rest
+abbrev pub AfterPrefix : (List ℕ → Type 0) → List ℕ → Type 0
+AfterPrefix P name = (front rest : List ℕ) × (name ≡ front ++ rest) × P rest
 
 -- the sign stands for the first character of the name, and P holds of the rest
-abbrev pub BehindOne : ℕ → (List ℕ → Type 0) → List ℕ → Type 0
-BehindOne sign P name = (c : ℕ) × (rest : List ℕ) × (name ≡ c ∷ rest) × StandsFor sign c × P rest
+abbrev pub AfterOne : ℕ → (List ℕ → Type 0) → List ℕ → Type 0
+AfterOne sign P name = (c : ℕ) × (rest : List ℕ) × (name ≡ c ∷ rest) × StandsFor sign c × P rest
 
 -- the signs of an alternative match a name whole: a run stands for any characters, and every
 -- other sign for one
-abbrev pub Fits : List ℕ → List ℕ → Type 0
-Fits [] name = name ≡ []
-Fits (sign ∷ signs) name = ((sign ≡ 42) × BehindFront (Fits signs) name) ⊎ ((sign ≢ 42) × BehindOne sign (Fits signs) name)
+abbrev pub MatchesSigns : List ℕ → List ℕ → Type 0
+MatchesSigns [] name = name ≡ []
+MatchesSigns (sign ∷ signs) name = ((sign ≡ 42) × AfterPrefix (MatchesSigns signs) name) ⊎ ((sign ≢ 42) × AfterOne sign (MatchesSigns signs) name)
 
 -- the signs behind a run match an end of a name
-abbrev pub FitsBehindRun : List ℕ → List ℕ → Type 0
-FitsBehindRun signs name = BehindFront (Fits signs) name
+abbrev pub MatchesAfterRun : List ℕ → List ℕ → Type 0
+MatchesAfterRun signs name = AfterPrefix (MatchesSigns signs) name
 
 -- the parts of a pattern between its bars
 abbrev pub alternatives : List ℕ → List (List ℕ)
@@ -34,7 +34,7 @@ alternatives pattern = slice_split (λ byte. byte == 124) pattern
 
 -- one alternative matches the name whole
 abbrev pub Matches : List ℕ → List ℕ → Type 0
-Matches pattern name = Any (λ alternative. Fits (chars alternative) (chars name)) (alternatives pattern)
+Matches pattern name = Any (λ alternative. MatchesSigns (chars alternative) (chars name)) (alternatives pattern)
 
 -- the same by tests, which compute: a test of some end of a name, the whole and the empty one
 -- included, and of the rest behind one character that a sign stands for
@@ -79,4 +79,4 @@ pub record Along (signs name later rest : List ℕ) : Type 0 where
 abbrev pub Reached : List ℕ → List ℕ → Reach → Type 0
 Reached signs name (Run later rest) = Along signs name (42 ∷ chars later.now) (chars rest.now)
 Reached signs name Whole = Along signs name [] []
-Reached signs name Nowhere = Fits signs name → ⊥
+Reached signs name Nowhere = MatchesSigns signs name → ⊥

@@ -2,7 +2,7 @@
 
 ghost use Rattle.std.specs.Prelude.{◌≡◌, ◌↔◌, [], ◌∷◌, IsTrue, MatchOption};
 ghost use Rattle.std.specs.Str.{chars};
-ghost use Rattle.cat_rules.specs.Patterns.{Fits, FitsBehindRun, Matches, Reached, StandsFor, does_match};
+ghost use Rattle.cat_rules.specs.Patterns.{MatchesSigns, MatchesAfterRun, Matches, Reached, StandsFor, does_match};
 
 use cat_values::Text;
 
@@ -35,7 +35,7 @@ pub fn matches(pattern: &Text, name: &Text) -> bool
 
 // Whether an alternative matches a name whole.
 fn fits(signs: &str, name: &str) -> bool
-    ensures { IsTrue result ↔ Fits (chars signs.now) (chars name.now) }
+    ensures { IsTrue result ↔ MatchesSigns (chars signs.now) (chars name.now) }
 {
     match follow(signs, name) {
         Reach::Run(later, rest) => fits_behind_run(later, rest),
@@ -47,7 +47,7 @@ fn fits(signs: &str, name: &str) -> bool
 // Whether the signs behind a run match an end of a name. Where they go as far as another run, it
 // is enough to look at the first place at which they do: the other run takes what lies between.
 fn fits_behind_run(signs: &str, name: &str) -> bool
-    ensures { IsTrue result ↔ FitsBehindRun (chars signs.now) (chars name.now) }
+    ensures { IsTrue result ↔ MatchesAfterRun (chars signs.now) (chars name.now) }
 {
     let mut signs = signs;
     let mut name = name;
