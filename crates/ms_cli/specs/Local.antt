@@ -89,6 +89,7 @@ pub record Refused (words : List (List ℕ)) (old new : Met) (errors errors' : E
   pub source_stays : Consumes old.left new.left []
   pub sink_stays : Goes Same old.held new.held
   pub clock_stays : Goes Same old.clock new.clock
+  pub files_stay : Goes Same old.files new.files
   pub status_is : status ≡ 2
   pub told : Lines usage errors errors'
 

@@ -41,7 +41,7 @@ pub fn run_local<S: Source, K: Sink, E: Sink, D: Disk, F: Folder, C: Clock>(
     folder: &mut F,
     clock: &mut C,
 ) -> LocalEnd<D>
-    ensures runs { Runs (map string_bytes words.now) (record { left = S.left input.old; held = K.held output.old; clock = C.moments clock.old }) (record { left = S.left input.new; held = K.held output.new; clock = C.moments clock.new }) (record { held = E.held errors.old; faults = E.faults errors.old }) (record { held = E.held errors.new; faults = E.faults errors.new }) result.status }
+    ensures runs { Runs (map string_bytes words.now) (record { left = S.left input.old; held = K.held output.old; clock = C.moments clock.old; files = F.files folder.old }) (record { left = S.left input.new; held = K.held output.new; clock = C.moments clock.new; files = F.files folder.new }) (record { held = E.held errors.old; faults = E.faults errors.old }) (record { held = E.held errors.new; faults = E.faults errors.new }) result.status }
     ensures read { result.status ≡ 3 → Rose (S.faults input.old) (S.faults input.new) }
     ensures write { result.status ≡ 4 → Rose (K.faults output.old) (K.faults output.new) }
     ensures input_stays { result.status ≢ 3 → S.faults input.new ≡ S.faults input.old }
@@ -86,7 +86,7 @@ fn pipe<S: Source, K: Sink, E: Sink, F: Folder, C: Clock>(
     clock: &mut C,
 ) -> u8
     ensures session { (entries : List Entry) × (ended : End) × Legal new_store entries × NoneAbove 0 entries
-        × Session (record { left = S.left input.old; held = K.held output.old; clock = C.moments clock.old }) (record { left = S.left input.new; held = K.held output.new; clock = C.moments clock.new }) entries ended
+        × Session (record { left = S.left input.old; held = K.held output.old; clock = C.moments clock.old; files = F.files folder.old }) (record { left = S.left input.new; held = K.held output.new; clock = C.moments clock.new; files = F.files folder.new }) entries ended
         × (result ≡ status_of ended) × Tells ended (record { held = E.held errors.old; faults = E.faults errors.old }) (record { held = E.held errors.new; faults = E.faults errors.new }) }
     ensures read { result ≡ 3 → Rose (S.faults input.old) (S.faults input.new) }
     ensures write { result ≡ 4 → Rose (K.faults output.old) (K.faults output.new) }
@@ -108,7 +108,7 @@ fn serve_new<S: Source, K: Sink, F: Folder, C: Clock>(
     clock: &mut C,
 ) -> End
     ensures session { (entries : List Entry) × Legal new_store entries × NoneAbove 0 entries
-        × Session (record { left = S.left input.old; held = K.held output.old; clock = C.moments clock.old }) (record { left = S.left input.new; held = K.held output.new; clock = C.moments clock.new }) entries result }
+        × Session (record { left = S.left input.old; held = K.held output.old; clock = C.moments clock.old; files = F.files folder.old }) (record { left = S.left input.new; held = K.held output.new; clock = C.moments clock.new; files = F.files folder.new }) entries result }
     ensures read { result ≡ End.ReadFault → Rose (S.faults input.old) (S.faults input.new) }
     ensures write { result ≡ End.WriteFault → Rose (K.faults output.old) (K.faults output.new) }
     ensures input_stays { result ≢ End.ReadFault → S.faults input.new ≡ S.faults input.old }

@@ -1,5 +1,5 @@
 -- A caller alone at a new store.
-use Rattle.std.proofs.Common.{◌≡◌, ℕ, ◌⊎◌, Bool, true, false, List, [], ◌∷◌, ◌++◌, map, codes, Some, None, is_some, refl, sym, ◌∙◌, ap, subst, inl, inr}
+use Rattle.std.proofs.Common.{◌≡◌, ℕ, ◌⊎◌, Bool, true, false, List, [], ◌∷◌, ◌++◌, map, codes, Option, Some, None, is_some, refl, sym, ◌∙◌, ap, subst, inl, inr}
 use Rattle.std.specs.Prelude.{cond}
 use Rattle.std.proofs.lemmas.Bool.{false≢true}
 use Rattle.std.specs.List.{AllByRecursion, flat_map}
@@ -23,7 +23,7 @@ use Rattle.ms_calls.specs.declared.request.Asked.TheVariants as ask
 use Rattle.ms_calls.specs.Refusals.{out_of_memory}
 use Rattle.ms_session.specs.Laws.{AloneListsDefault, Lists, MakesNone}
 use Rattle.ms_session.specs.Requests.{asks}
-use Rattle.ms_session.specs.Turns.{Due, IsReplyTo, IsTurn, Turn}
+use Rattle.ms_session.specs.Turns.{Due, Files, IsReplyTo, IsTurn, Turn}
 use Rattle.ms_session.proofs.Results.{reply_in}
 
 abbrev names : List (List ℕ)
@@ -69,8 +69,8 @@ abbrev Behind : List Entry → Type 0
 Behind more = (q : Point) × (q.state.catalogue ≡ new_catalogue) × IsLegal q (map took more)
 
 -- a call of the catalogue that makes no database
-one_call : (p : Point) (call : Call) (entries more : List Entry) (due reply : Reply) → p.state.catalogue ≡ new_catalogue → MakesNone (ask.Client call) → IsLegal p (map took (entries ++ more)) → Due (ask.Client call) entries due → Behind more
-one_call p call entries more due reply new none legal d =
+one_call : (p : Point) (call : Call) (entries more : List Entry) (before after : Option Files) (due reply : Reply) → p.state.catalogue ≡ new_catalogue → MakesNone (ask.Client call) → IsLegal p (map took (entries ++ more)) → Due (ask.Client call) entries before after due → Behind more
+one_call p call entries more before after due reply new none legal d =
     let all : IsLegal p (map took ((d.0 ∷ []) ++ more)) = subst (λ (es : List Entry). IsLegal p (map took (es ++ more))) d.2 legal in
     (next p (took d.0), stays_new p d.0 call d.1 new d.3 none, all.1)
 
@@ -78,26 +78,26 @@ one_call p call entries more due reply new none legal d =
 no_call : (p : Point) (entries more : List Entry) → p.state.catalogue ≡ new_catalogue → IsLegal p (map took (entries ++ more)) → entries ≡ [] → Behind more
 no_call p entries more new legal is = (p, new, subst (λ (es : List Entry). IsLegal p (map took (es ++ more))) is legal)
 
-one_message : (p : Point) (asked : Asked) (entries more : List Entry) (due reply : Reply) → p.state.catalogue ≡ new_catalogue → MakesNone asked → IsLegal p (map took (entries ++ more)) → Due asked entries due → (reply ≡ due) ⊎ (reply ≡ out_of_memory)
+one_message : (p : Point) (asked : Asked) (entries more : List Entry) (before after : Option Files) (due reply : Reply) → p.state.catalogue ≡ new_catalogue → MakesNone asked → IsLegal p (map took (entries ++ more)) → Due asked entries before after due → (reply ≡ due) ⊎ (reply ≡ out_of_memory)
     → Lists names asked reply × Behind more
-one_message p (ask.Client GetAllDatabases) entries more due reply new none legal d which =
+one_message p (ask.Client GetAllDatabases) entries more before after due reply new none legal d which =
     let all : IsLegal p (map took ((d.0 ∷ []) ++ more)) = subst (λ (es : List Entry). IsLegal p (map took (es ++ more))) d.2 legal in
     let one = one_listing p d.0 d.1 new d.3 all.0 due d.4 in
-    (instead due reply (Names names) one which, one_call p GetAllDatabases entries more due reply new tt legal d)
-one_message p (ask.Client (GetDatabase name)) entries more due reply new none legal d which = (tt, one_call p (GetDatabase name) entries more due reply new tt legal d)
-one_message p (ask.Client (CreateDatabase db)) entries more due reply new none legal d which = absurd none
-one_message p (ask.Plain r) entries more due reply new none legal d which = (tt, no_call p entries more new legal d.0)
-one_message p ask.Unknown entries more due reply new none legal d which = (tt, no_call p entries more new legal d.0)
-one_message p (ask.BadArgument id) entries more due reply new none legal d which = (tt, no_call p entries more new legal d.0)
-one_message p ask.Shutdown entries more due reply new none legal d which = absurd d
+    (instead due reply (Names names) one which, one_call p GetAllDatabases entries more before after due reply new tt legal d)
+one_message p (ask.Client (GetDatabase name)) entries more before after due reply new none legal d which = (tt, one_call p (GetDatabase name) entries more before after due reply new tt legal d)
+one_message p (ask.Client (CreateDatabase db)) entries more before after due reply new none legal d which = absurd none
+one_message p (ask.Plain r) entries more before after due reply new none legal d which = (tt, no_call p entries more new legal d.0)
+one_message p ask.Unknown entries more before after due reply new none legal d which = (tt, no_call p entries more new legal d.0)
+one_message p (ask.BadArgument id) entries more before after due reply new none legal d which = (tt, no_call p entries more new legal d.0)
+one_message p ask.Shutdown entries more before after due reply new none legal d which = absurd d
 
 all_turns : (p : Point) (turns : List Turn) → p.state.catalogue ≡ new_catalogue → AllByRecursion IsTurn turns → AllByRecursion (λ (turn : Turn). MakesNone (asks turn.message)) turns → IsLegal p (map took (flat_map (λ turn. turn.entries) turns))
     → AllByRecursion (λ (turn : Turn). Lists names (asks turn.message) turn.reply) turns
 all_turns p [] new each none legal = tt
 all_turns p (t ∷ ts) new each none legal =
-    let one = one_message p (asks t.message) t.entries (flat_map (λ turn. turn.entries) ts) each.0.0 t.reply new none.0 legal each.0.1 each.0.2 in
+    let one = one_message p (asks t.message) t.entries (flat_map (λ turn. turn.entries) ts) t.before t.after each.0.0 t.reply new none.0 legal each.0.1 each.0.2 in
     (one.0, all_turns one.1.0 ts one.1.1 each.1 none.1 one.1.2)
 
 pub lists_default : AloneListsDefault
-lists_default id base turns bytes clock clock' entries carried legal none =
+lists_default id base turns bytes clock clock' files files' entries carried legal none =
     all_turns (point_of (record { state = start id base; fault = 0 })) turns refl carried.each none (subst (λ (es : List Entry). IsLegal (point_of (record { state = start id base; fault = 0 })) (map took es)) carried.own legal)

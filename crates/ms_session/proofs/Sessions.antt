@@ -19,7 +19,7 @@ use Rattle.ms_calls.specs.declared.request.Asked.TheVariants as ask
 use Rattle.ms_structs.specs.Getting.{Begun, Gets}
 use Rattle.ms_session.specs.Requests.{IsNext, SaysRequest, asks}
 use Rattle.ms_session.specs.Session.{Interrupted, IsPart, IsShutdown, Met, Served, Session, end_of_fault}
-use Rattle.ms_session.specs.Turns.{AnswersBy, Begins, Carried, Due, IsTurn, Replied, Replies, Turn, replies_of}
+use Rattle.ms_session.specs.Turns.{AnswersBy, Begins, Carried, Due, Files, IsTurn, Replied, Replies, Turn, replies_of}
 use Rattle.ms_session.specs.declared.end.End.TheVariants as ended
 use Rattle.ms_session.specs.declared.request.Request.{Request}
 use Rattle.ms_session.proofs.Turns.{carried_more, replied_more, replied_none}
@@ -56,12 +56,12 @@ pub record SoFar (old new : Met) (place : ℕ) (entries : List Entry) : Type 0 w
   pub bytes : List ℕ
   pub lost : Consumes old.left new.left bytes
   pub here : place ≡ length bytes
-  pub carried : Carried turns bytes old.clock new.clock entries
+  pub carried : Carried turns bytes old.clock new.clock old.files new.files entries
   pub replied : Goes (Replied (replies_of turns)) old.held new.held
 
 -- the same, but for what the source has left
 abbrev pub later : Met → Option (List ℕ) → Met
-later met left = record { left = left; held = met.held; clock = met.clock }
+later met left = record { left = left; held = met.held; clock = met.clock; files = met.files }
 
 -- nothing so far
 pub nothing_yet : (met : Met) (place : ℕ) → place ≡ 0 → SoFar met met place []
@@ -70,7 +70,7 @@ nothing_yet met place at = record {
   bytes = [];
   lost = Consumes-nil met.left;
   here = at;
-  carried = record { spelled = refl; each = tt; own = refl; moments = same met.clock };
+  carried = record { spelled = refl; each = tt; own = refl; moments = same met.clock; passed = refl };
   replied = replied_none met.held;
 }
   where
@@ -80,25 +80,25 @@ nothing_yet met place at = record {
 
 -- ---- one message more
 
--- a message that was taken, with its entries and its reply
-abbrev turn_of : (a b : Option (List ℕ)) (p q : Progress) (request : Request) → Took a b (fresh p) q (Came request) → List Entry → Reply → Turn
-turn_of a b p q request took entries reply = record { message = took.holds.message; entries = entries; reply = reply }
+-- a message that was taken, with its entries, the files before and after it, and its reply
+abbrev turn_of : (met new : Met) (p q : Progress) (request : Request) → Took met.left new.left (fresh p) q (Came request) → List Entry → Reply → Turn
+turn_of met new p q request took entries reply = record { message = took.holds.message; entries = entries; before = met.files; after = new.files; reply = reply }
 
 -- it was carried out behind others
 one_carried : (old met new : Met) (p q : Progress) (xs ys : List Entry) (request : Request) (so_far : SoFar old met p.place xs) (took : Took met.left new.left (fresh p) q (Came request))
-    → (Went : Head → Reply → Option Held → Option Held → Type 0) (answers : AnswersBy Went request ys met.clock new.clock met.held new.held)
-    → Carried (so_far.turns ++ turn_of met.left new.left p q request took ys answers.1 ∷ []) (so_far.bytes ++ took.bytes) old.clock new.clock (xs ++ ys)
+    → (Went : Head → Reply → Option Held → Option Held → Type 0) (answers : AnswersBy Went request ys met.clock new.clock met.files new.files met.held new.held)
+    → Carried (so_far.turns ++ turn_of met new p q request took ys answers.1 ∷ []) (so_far.bytes ++ took.bytes) old.clock new.clock old.files new.files (xs ++ ys)
 one_carried old met new p q xs ys request so_far took Went answers =
-    let turn = turn_of met.left new.left p q request took ys answers.1 in
+    let turn = turn_of met new p q request took ys answers.1 in
     let fits : length took.bytes ≤ room_at p.place = omega (arith, took.within) in
-    let is : IsTurn turn = (answers.0, subst (λ (a : Asked). Due a ys answers.0) (sym took.holds.asked) answers.2, answers.3) in
-    carried_more so_far.turns turn so_far.bytes took.bytes old.clock met.clock new.clock xs ys so_far.carried took.holds.spelled (subst (λ (n : ℕ). length took.bytes ≤ room_at n) so_far.here fits) is refl answers.4
+    let is : IsTurn turn = (answers.0, subst (λ (a : Asked). Due a ys met.files new.files answers.0) (sym took.holds.asked) answers.2, answers.3) in
+    carried_more so_far.turns turn so_far.bytes took.bytes old.clock met.clock new.clock old.files met.files xs ys so_far.carried took.holds.spelled (subst (λ (n : ℕ). length took.bytes ≤ room_at n) so_far.here fits) is refl answers.4 refl
 
 -- one more message was carried out, and answered whole
 pub one_more : (old met new : Met) (p q : Progress) (xs ys : List Entry) (request : Request) → SoFar old met p.place xs → Took met.left new.left (fresh p) q (Came request)
-    → AnswersBy Replies request ys met.clock new.clock met.held new.held → SoFar old new q.place (xs ++ ys)
+    → AnswersBy Replies request ys met.clock new.clock met.files new.files met.held new.held → SoFar old new q.place (xs ++ ys)
 one_more old met new p q xs ys request so_far took answers =
-    let turn = turn_of met.left new.left p q request took ys answers.1 in
+    let turn = turn_of met new p q request took ys answers.1 in
     record {
       turns = so_far.turns ++ turn ∷ [];
       bytes = so_far.bytes ++ took.bytes;
@@ -110,12 +110,12 @@ one_more old met new p q xs ys request so_far took answers =
 
 -- one more message was carried out, and not answered whole
 pub one_part : (old met new : Met) (p q : Progress) (xs ys : List Entry) (request : Request) → SoFar old met p.place xs → Took met.left new.left (fresh p) q (Came request)
-    → AnswersBy Begins request ys met.clock new.clock met.held new.held → Interrupted old new (xs ++ ys)
+    → AnswersBy Begins request ys met.clock new.clock met.files new.files met.held new.held → Interrupted old new (xs ++ ys)
 one_part old met new p q xs ys request so_far took answers =
     let begins = subst (λ (h : Head). Begins h answers.1 met.held new.held) (sym took.holds.head) answers.5 in
     record {
       turns = so_far.turns;
-      last = turn_of met.left new.left p q request took ys answers.1;
+      last = turn_of met new p q request took ys answers.1;
       taken = so_far.bytes ++ took.bytes;
       lost = Consumes-trans old.left met.left new.left so_far.bytes took.bytes so_far.lost took.consumed;
       carried = one_carried old met new p q xs ys request so_far took Begins answers;

@@ -1,5 +1,5 @@
 -- One message more is carried out and answered.
-use Rattle.std.proofs.Common.{◌≡◌, ◌==◌, ◌≢◌, ℕ, ◌+◌, ◌≤◌, Bool, true, false, cond, List, [], ◌∷◌, ◌++◌, length, map, Option, Some, None, sym, ap, ◌∙◌, subst, append_assoc, arith, length-append}
+use Rattle.std.proofs.Common.{◌≡◌, ◌==◌, ◌≢◌, ℕ, ◌+◌, ◌≤◌, Bool, true, false, cond, List, [], ◌∷◌, ◌++◌, length, map, Option, Some, None, refl, sym, ap, ◌∙◌, subst, append_assoc, arith, length-append}
 use Rattle.std.specs.List.{AllByRecursion, concat, flat_map}
 use Rattle.std.proofs.lemmas.Bool.{false≢true}
 use Rattle.std.proofs.lemmas.List.{append-nil, map-append}
@@ -13,7 +13,7 @@ use Rattle.thrift_binary.specs.Messages.{Message, Asks, IsMessage, AreMessages}
 use Rattle.thrift_binary.specs.Taking.{room_at}
 use Rattle.thrift_binary.proofs.OneText.{one_more}
 use Rattle.ms_session.specs.Replies.{reply_bytes, sent_for}
-use Rattle.ms_session.specs.Turns.{Carried, IsTurn, Replied, Replies, Timed, Turn, ends_of, moments_in, moments_of, replies_of}
+use Rattle.ms_session.specs.Turns.{Carried, Files, FilesPass, IsTurn, Replied, Replies, Timed, Turn, ends_of, moments_in, moments_of, replies_of}
 
 -- ---- moments
 
@@ -29,6 +29,12 @@ timed_same moments (Some x) (Some y) c same timed = subst (λ (z : List ℕ). Ti
 timed-append : (ms ns : List ℕ) (a b c : Option (List ℕ)) → Timed ms a b → Timed ns b c → Timed (ms ++ ns) a c
 timed-append [] ns a b c first second = timed_same ns a b c first second
 timed-append (m ∷ ms) ns a b c first second = (first.0, first.1, timed-append ms ns first.0 b c first.2 second)
+
+-- ---- files
+
+passed_more : (turns : List Turn) (turn : Turn) (a b : Option Files) → FilesPass turns a b → turn.before ≡ b → FilesPass (turns ++ turn ∷ []) a turn.after
+passed_more [] turn a b so_far from = (from ∙ so_far, refl)
+passed_more (t ∷ ts) turn a b so_far from = (so_far.0, passed_more ts turn t.after b so_far.1 from)
 
 -- ---- messages
 
@@ -47,13 +53,15 @@ own_more : (turns : List Turn) (turn : Turn) → flat_map (λ t. t.entries) (tur
 own_more turns turn = flat_map-append (λ t. t.entries) turns (turn ∷ []) ∙ ap (λ (es : List Entry). flat_map (λ t. t.entries) turns ++ es) (append-nil turn.entries)
 
 -- one more message was carried out
-pub carried_more : (turns : List Turn) (turn : Turn) (front rest : List ℕ) (a b c : Option (List ℕ)) (xs ys : List Entry)
-    → Carried turns front a b xs → IsMessage Asks turn.message rest → length rest ≤ room_at (length front) → IsTurn turn → turn.entries ≡ ys → Timed (moments_of ys) b c → Carried (turns ++ turn ∷ []) (front ++ rest) a c (xs ++ ys)
-carried_more turns turn front rest a b c xs ys so_far message within is own timed = record {
+pub carried_more : (turns : List Turn) (turn : Turn) (front rest : List ℕ) (a b c : Option (List ℕ)) (f g : Option Files) (xs ys : List Entry)
+    → Carried turns front a b f g xs → IsMessage Asks turn.message rest → length rest ≤ room_at (length front) → IsTurn turn → turn.entries ≡ ys → Timed (moments_of ys) b c → turn.before ≡ g
+    → Carried (turns ++ turn ∷ []) (front ++ rest) a c f turn.after (xs ++ ys)
+carried_more turns turn front rest a b c f g xs ys so_far message within is own timed from = record {
   spelled = spells_more turns turn front rest so_far.spelled message within;
   each = each_more turns turn so_far.each is;
   own = ap (λ (es : List Entry). es ++ ys) so_far.own ∙ ap (λ (es : List Entry). flat_map (λ t. t.entries) turns ++ es) (sym own) ∙ sym (own_more turns turn);
   moments = subst (λ (ms : List ℕ). Timed ms a c) (sym (flat_map-append (λ e. moments_in e.0.step) xs ys)) (timed-append (moments_of xs) (moments_of ys) a b c so_far.moments timed);
+  passed = passed_more turns turn f g so_far.passed from;
 }
 
 -- ---- replies

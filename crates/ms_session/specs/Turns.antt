@@ -27,27 +27,33 @@ IsReplyTo (answer.Reply told) reply = reply ≡ told
 IsReplyTo answer.StoreFault reply = reply ≡ store_fault
 IsReplyTo answer.NoMemory reply = reply ≡ out_of_memory
 
--- the desk took no step, and this reply is due
-abbrev pub WithoutSteps : Reply → List Entry → Reply → Type 0
-WithoutSteps told entries reply = (entries ≡ []) × (reply ≡ told)
+-- the files of a folder, by name
+abbrev pub Files : Type 0
+Files = List (List ℕ × List ℕ)
 
--- the entries of the caller for what a message asks, and the reply that is due: a call is one step, and its answer makes the reply; nothing else is a step, and no reply is due to the end of the session
-abbrev pub Due : Asked → List Entry → Reply → Type 0
-Due (Client call) entries reply = (e : Entry) × (moment : ℕ) × (entries ≡ e ∷ []) × (e.0.step ≡ step.Client call moment) × IsReplyTo e.1.answer reply
-Due (Plain told) entries reply = WithoutSteps told entries reply
-Due Unknown entries reply = WithoutSteps unknown_method entries reply
-Due (BadArgument id) entries reply = WithoutSteps (bad_argument id) entries reply
-Due Shutdown entries reply = ⊥
+-- the desk took no step, the files stayed, and this reply is due
+abbrev pub WithoutSteps : Reply → List Entry → Option Files → Option Files → Reply → Type 0
+WithoutSteps told entries before after reply = (entries ≡ []) × (reply ≡ told) × (after ≡ before)
 
--- a message that was carried out, the caller's entries for it, and its reply
+-- the entries of the caller for what a message asks, the folder's files before and after it, as far as they are known, and the reply that is due: a call is one step, and its answer makes the reply; nothing else is a step, and no reply is due to the end of the session; the files stay
+abbrev pub Due : Asked → List Entry → Option Files → Option Files → Reply → Type 0
+Due (Client call) entries before after reply = (e : Entry) × (moment : ℕ) × (entries ≡ e ∷ []) × (e.0.step ≡ step.Client call moment) × IsReplyTo e.1.answer reply × (after ≡ before)
+Due (Plain told) entries before after reply = WithoutSteps told entries before after reply
+Due Unknown entries before after reply = WithoutSteps unknown_method entries before after reply
+Due (BadArgument id) entries before after reply = WithoutSteps (bad_argument id) entries before after reply
+Due Shutdown entries before after reply = ⊥
+
+-- a message that was carried out, the caller's entries for it, the folder's files before and after it, as far as they are known, and its reply
 pub record Turn : Type 0 where
   pub message : Message
   pub entries : List Entry
+  pub before : Option Files
+  pub after : Option Files
   pub reply : Reply
 
--- the entries are those of what the message asks, and the reply is the one that is due, or want of memory in its place
+-- the entries and the files are those of what the message asks, and the reply is the one that is due, or want of memory in its place
 abbrev pub IsTurn : Turn → Type 0
-IsTurn turn = (due : Reply) × Due (asks turn.message) turn.entries due × ((turn.reply ≡ due) ⊎ (turn.reply ≡ out_of_memory))
+IsTurn turn = (due : Reply) × Due (asks turn.message) turn.entries turn.before turn.after due × ((turn.reply ≡ due) ⊎ (turn.reply ≡ out_of_memory))
 
 -- the bytes of its reply
 abbrev pub turn_bytes : Turn → List ℕ
@@ -57,7 +63,7 @@ turn_bytes turn = reply_bytes turn.message.head turn.reply
 abbrev pub replies_of : List Turn → List (List ℕ)
 replies_of turns = flat_map (λ turn. sent_for turn.message.head turn.reply) turns
 
--- ---- the clock
+-- ---- the clock and the folder
 
 -- the moments of the clock that a step was taken at: a call has one
 abbrev pub moments_in : Step → List ℕ
@@ -72,9 +78,14 @@ abbrev pub Timed : List ℕ → Option (List ℕ) → Option (List ℕ) → Type
 Timed [] old new = Goes Same old new
 Timed (moment ∷ moments) old new = (between : Option (List ℕ)) × Ticks old between moment × Timed moments between new
 
+-- the folder's files pass from turn to turn: the first begins with these, each later one with those that the one before it left, and the last leaves those
+abbrev pub FilesPass : List Turn → Option Files → Option Files → Type 0
+FilesPass [] files files' = files' ≡ files
+FilesPass (turn ∷ turns) files files' = (turn.before ≡ files) × FilesPass turns turn.after files'
+
 -- what was done for what a message asks, and its reply, where there was memory for that
-abbrev pub Did : {E : Type 0} → Asked → Option (List ℕ) → Option (List ℕ) → Result Reply E → List Entry → Type 0
-Did asked clock clock' result own = (due : Reply) × Due asked own due × Timed (moments_of own) clock clock' × IfOk result (λ reply. reply ≡ due)
+abbrev pub Did : {E : Type 0} → Asked → Option (List ℕ) → Option (List ℕ) → Option Files → Option Files → Result Reply E → List Entry → Type 0
+Did asked clock clock' files files' result own = (due : Reply) × Due asked own files files' due × Timed (moments_of own) clock clock' × IfOk result (λ reply. reply ≡ due)
 
 -- ---- replies
 
@@ -103,22 +114,24 @@ abbrev pub Begins : Head → Reply → Option Held → Option Held → Type 0
 Begins head reply held held' = (head.kind ≢ oneway_kind) × Goes (GrewPart (reply_bytes head reply)) held held'
 
 -- a request was carried out with these entries, and this became of its reply
-abbrev pub AnswersBy : (Head → Reply → Option Held → Option Held → Type 0) → Request → List Entry → Option (List ℕ) → Option (List ℕ) → Option Held → Option Held → Type 0
-AnswersBy Went request entries clock clock' held held' =
-    (due reply : Reply) × Due request.asked entries due × ((reply ≡ due) ⊎ (reply ≡ out_of_memory)) × Timed (moments_of entries) clock clock' × Went request.head reply held held'
+abbrev pub AnswersBy : (Head → Reply → Option Held → Option Held → Type 0) → Request → List Entry → Option (List ℕ) → Option (List ℕ) → Option Files → Option Files → Option Held → Option Held → Type 0
+AnswersBy Went request entries clock clock' files files' held held' =
+    (due reply : Reply) × Due request.asked entries files files' due × ((reply ≡ due) ⊎ (reply ≡ out_of_memory)) × Timed (moments_of entries) clock clock' × Went request.head reply held held'
 
 -- a request was carried out, and its reply was sent whole, or a front of it where the sending was refused
-abbrev pub Answers : {T E : Type 0} → Request → List Entry → Option (List ℕ) → Option (List ℕ) → Option Held → Option Held → Result T E → Type 0
-Answers request entries clock clock' held held' result = MatchResult result (λ _. AnswersBy Replies request entries clock clock' held held') (λ _. AnswersBy Begins request entries clock clock' held held')
+abbrev pub Answers : {T E : Type 0} → Request → List Entry → Option (List ℕ) → Option (List ℕ) → Option Files → Option Files → Option Held → Option Held → Result T E → Type 0
+Answers request entries clock clock' files files' held held' result =
+    MatchResult result (λ _. AnswersBy Replies request entries clock clock' files files' held held') (λ _. AnswersBy Begins request entries clock clock' files files' held held')
 
 -- ---- many messages
 
--- messages of these bytes were carried out one by one: the caller's entries are theirs in order, at the moments that the clock answered
-pub record Carried (turns : List Turn) (bytes : List ℕ) (clock clock' : Option (List ℕ)) (entries : List Entry) : Type 0 where
+-- messages of these bytes were carried out one by one: the caller's entries are theirs in order, at the moments that the clock answered, and the folder's files pass from one to the next
+pub record Carried (turns : List Turn) (bytes : List ℕ) (clock clock' : Option (List ℕ)) (files files' : Option Files) (entries : List Entry) : Type 0 where
   pub spelled : AreMessages Asks 0 (map (λ turn. turn.message) turns) bytes
   pub each : AllByRecursion IsTurn turns
   pub own : entries ≡ flat_map (λ turn. turn.entries) turns
   pub moments : Timed (moments_of entries) clock clock'
+  pub passed : FilesPass turns files files'
 
 -- the same, and behind them a front of one more reply, without a flush
 pub record RepliedPart (replies : List (List ℕ)) (last : List ℕ) (old new : Held) : Type 0 where

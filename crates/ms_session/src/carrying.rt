@@ -7,20 +7,21 @@ ghost use Rattle.desk.specs.History.{Legal, NoneAbove};
 ghost use Rattle.ms_calls.specs.Asked.{CameAs, IfClient, IfPlain};
 ghost use Rattle.ms_calls.specs.Replies.{CanReply};
 ghost use Rattle.ms_calls.specs.declared.method.Method.{Method};
-ghost use Rattle.ms_session.specs.Turns.{Did, IsReplyTo};
+ghost use Rattle.ms_session.specs.Turns.{Did, Files, IsReplyTo};
 
 use cat_types::{Answer, Call, NoMemory, Reply, Step};
 use desk::Desk;
-use hms_outside::Clock;
+use hms_outside::{Clock, Folder};
 use ms_calls::{Asked, bad_argument, out_of_memory, store_fault, unknown_method};
 use std::alloc::Global;
 
 /// Carries out what a message asks, and answers the reply that is due to it. After `NoMemory` it was
-/// carried out too, and only the reply is missing.
-pub fn carry_out<D: Desk, C: Clock>(
+/// carried out too, and only the reply is missing. Nothing that can be asked so far needs the folder.
+pub fn carry_out<D: Desk, F: Folder, C: Clock>(
     alloc: Global,
     asked: Asked,
     desk: &mut D,
+    _folder: &mut F,
     clock: &mut C,
 ) -> Result<Reply, NoMemory>
     requires goes_on { asked ≡ Asked.Shutdown → ⊥ }
@@ -29,7 +30,8 @@ pub fn carry_out<D: Desk, C: Clock>(
     ensures legal { Legal (D.start desk.old) (D.history desk.old) → Legal (D.start desk.new) (D.history desk.new) }
     ensures counted { NoneAbove (D.faults desk.old) (D.history desk.old) → NoneAbove (D.faults desk.new) (D.history desk.new) }
     ensures clock_later { C.faults clock.old ≤ C.faults clock.new }
-    ensures carried { Adds D.alone (D.caller desk.old) (D.history desk.old) (D.history desk.new) (Did asked (C.moments clock.old) (C.moments clock.new) result) }
+    ensures carried { Adds D.alone (D.caller desk.old) (D.history desk.old) (D.history desk.new) (Did asked (C.moments clock.old) (C.moments clock.new) (F.files _folder.old) (F.files _folder.new) result) }
+    ensures folder { _folder.new ≡ _folder.old }
     ensures can { (method : Option Method) → IfPlain asked (CanReply method) → IfClient asked (CameAs method) → IfOk result (CanReply method) }
 {
     match asked {
@@ -41,7 +43,7 @@ pub fn carry_out<D: Desk, C: Clock>(
     }
 }
 
-// Takes one step of the desk for a call.
+// Takes one step of the desk for a call, whatever files there are.
 fn call_desk<D: Desk, C: Clock>(
     alloc: Global,
     call: Call,
@@ -53,7 +55,7 @@ fn call_desk<D: Desk, C: Clock>(
     ensures legal { Legal (D.start desk.new) (D.history desk.new) }
     ensures counted { NoneAbove (D.faults desk.new) (D.history desk.new) }
     ensures clock_later { C.faults clock.old ≤ C.faults clock.new }
-    ensures carried { Adds D.alone (D.caller desk.old) (D.history desk.old) (D.history desk.new) (Did (Asked.Client call) (C.moments clock.old) (C.moments clock.new) result) }
+    ensures carried { (files : Option Files) → Adds D.alone (D.caller desk.old) (D.history desk.old) (D.history desk.new) (Did (Asked.Client call) (C.moments clock.old) (C.moments clock.new) files files result) }
     ensures can { (method : Option Method) → CameAs method call → IfOk result (CanReply method) }
 {
     let moment = clock.now();

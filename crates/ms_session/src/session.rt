@@ -28,17 +28,17 @@ use thrift_binary::{SendFault, WireFault, WireReader, WireWriter};
 /// Where memory is refused after a message was read, its reply says so, and the session goes on.
 /// Where it is refused while a message is read, or while that reply is made or written, or where
 /// the sink refuses it, the session ends. Nothing is carried out behind a reply that could not be
-/// written. The folder is not used yet.
+/// written. The folder is left as it is: nothing that a message can ask so far needs it.
 pub fn serve_session<S: Source, K: Sink, D: Desk, F: Folder, C: Clock>(
     alloc: Global,
     source: &mut S,
     sink: &mut K,
     desk: &mut D,
-    _folder: &mut F,
+    folder: &mut F,
     clock: &mut C,
 ) -> End
     ensures session { Adds D.alone (D.caller desk.old) (D.history desk.old) (D.history desk.new) (λ own.
-        Session (record { left = S.left source.old; held = K.held sink.old; clock = C.moments clock.old }) (record { left = S.left source.new; held = K.held sink.new; clock = C.moments clock.new }) own result) }
+        Session (record { left = S.left source.old; held = K.held sink.old; clock = C.moments clock.old; files = F.files folder.old }) (record { left = S.left source.new; held = K.held sink.new; clock = C.moments clock.new; files = F.files folder.new }) own result) }
     ensures caller { D.caller desk.new ≡ D.caller desk.old }
     ensures start { D.start desk.new ≡ D.start desk.old }
     ensures legal { Legal (D.start desk.old) (D.history desk.old) → Legal (D.start desk.new) (D.history desk.new) }
@@ -50,24 +50,25 @@ pub fn serve_session<S: Source, K: Sink, D: Desk, F: Folder, C: Clock>(
     ensures write { result ≡ End.WriteFault → Rose (K.faults sink.old) (K.faults sink.new) }
     ensures source_stays { result ≢ End.ReadFault → S.faults source.new ≡ S.faults source.old }
     ensures sink_stays { result ≢ End.WriteFault → K.faults sink.new ≡ K.faults sink.old }
-    ensures folder { _folder.new ≡ _folder.old }
+    ensures folder { folder.new ≡ folder.old }
 {
     let mut reader = WireReader::new(source);
-    answer_all(alloc, &mut reader, sink, desk, clock)
+    answer_all(alloc, &mut reader, sink, desk, folder, clock)
 }
 
 // Answers each message that the reader finds.
-fn answer_all<S: Source, K: Sink, D: Desk, C: Clock>(
+fn answer_all<S: Source, K: Sink, D: Desk, F: Folder, C: Clock>(
     alloc: Global,
     reader: &mut WireReader<'_, S>,
     sink: &mut K,
     desk: &mut D,
+    folder: &mut F,
     clock: &mut C,
 ) -> End
     requires { reader.old.progress ≡ start }
     ensures same_source { reader.new.source.ghost_name ≡ reader.old.source.ghost_name }
     ensures session { Adds D.alone (D.caller desk.old) (D.history desk.old) (D.history desk.new) (λ own.
-        Session (record { left = S.left reader.old.source.now; held = K.held sink.old; clock = C.moments clock.old }) (record { left = S.left reader.new.source.now; held = K.held sink.new; clock = C.moments clock.new }) own result) }
+        Session (record { left = S.left reader.old.source.now; held = K.held sink.old; clock = C.moments clock.old; files = F.files folder.old }) (record { left = S.left reader.new.source.now; held = K.held sink.new; clock = C.moments clock.new; files = F.files folder.new }) own result) }
     ensures caller { D.caller desk.new ≡ D.caller desk.old }
     ensures start { D.start desk.new ≡ D.start desk.old }
     ensures legal { Legal (D.start desk.old) (D.history desk.old) → Legal (D.start desk.new) (D.history desk.new) }
@@ -79,6 +80,7 @@ fn answer_all<S: Source, K: Sink, D: Desk, C: Clock>(
     ensures write { result ≡ End.WriteFault → Rose (K.faults sink.old) (K.faults sink.new) }
     ensures source_stays { result ≢ End.ReadFault → S.faults reader.new.source.now ≡ S.faults reader.old.source.now }
     ensures sink_stays { result ≢ End.WriteFault → K.faults sink.new ≡ K.faults sink.old }
+    ensures folder { folder.new ≡ folder.old }
 {
     let mut writer = WireWriter::new(alloc);
     loop {
@@ -90,7 +92,7 @@ fn answer_all<S: Source, K: Sink, D: Desk, C: Clock>(
         if request.is_shutdown() {
             return End::Shutdown;
         }
-        match answer(alloc, request, &mut writer, sink, desk, clock) {
+        match answer(alloc, request, &mut writer, sink, desk, folder, clock) {
             Ok(()) => {}
             Err(SendFault::WriteFault) => return End::WriteFault,
             Err(SendFault::NoMemory) => return End::NoMemory,
@@ -112,12 +114,13 @@ fn end_of(fault: WireFault) -> End
 }
 
 // Carries out one message that doesn't end the session, and answers it, unless it wants no reply.
-fn answer<K: Sink, D: Desk, C: Clock>(
+fn answer<K: Sink, D: Desk, F: Folder, C: Clock>(
     alloc: Global,
     request: Request,
     writer: &mut WireWriter,
     sink: &mut K,
     desk: &mut D,
+    folder: &mut F,
     clock: &mut C,
 ) -> Result<(), SendFault>
     requires empty { writer.old ≡ [] }
@@ -125,7 +128,7 @@ fn answer<K: Sink, D: Desk, C: Clock>(
     requires named { CameUnderItsName request }
     ensures emptied { OnOk result (writer.new ≡ []) }
     ensures answers { Adds D.alone (D.caller desk.old) (D.history desk.old) (D.history desk.new) (λ own.
-        Answers request own (C.moments clock.old) (C.moments clock.new) (K.held sink.old) (K.held sink.new) result) }
+        Answers request own (C.moments clock.old) (C.moments clock.new) (F.files folder.old) (F.files folder.new) (K.held sink.old) (K.held sink.new) result) }
     ensures caller { D.caller desk.new ≡ D.caller desk.old }
     ensures start { D.start desk.new ≡ D.start desk.old }
     ensures legal { Legal (D.start desk.old) (D.history desk.old) → Legal (D.start desk.new) (D.history desk.new) }
@@ -134,13 +137,14 @@ fn answer<K: Sink, D: Desk, C: Clock>(
     ensures clock_later { C.faults clock.old ≤ C.faults clock.new }
     ensures cause { IsErrOf result SendFault.WriteFault → Rose (K.faults sink.old) (K.faults sink.new) }
     ensures sink_stays { StaysBut SendFault.WriteFault result (K.faults sink.old) (K.faults sink.new) }
+    ensures folder { folder.new ≡ folder.old }
 {
     let Request {
         head,
         method,
         asked,
     } = request;
-    let due = carry_out(alloc, asked, desk, clock);
+    let due = carry_out(alloc, asked, desk, folder, clock);
     if is_one_way(&head) {
         drop(due);
         return Ok(());

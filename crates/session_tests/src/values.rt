@@ -1,16 +1,17 @@
-//! Readings of values that no message has yet, the text of a refusal, and the laws.
+//! Readings of values that no message has yet, a message and a reply by their head alone, the text of
+//! a refusal, and the laws.
 
-use crate::messages::put_text;
-use cat_types::{Bytes, PlaceMap, Reply};
-use hms_outside::MemSource;
-use ms_calls::{order_of_fields_is_free, store_fault};
+use crate::messages::{put_exception, put_listing, put_text};
+use cat_types::{Bytes, Call, PlaceMap, Reply};
+use hms_outside::{MemSink, MemSource};
+use ms_calls::{Asked, asked, order_of_fields_is_free, put_reply, store_fault, unknown_method};
 use ms_session::{alone_lists_default, whole_texts_are_served};
 use ms_structs::{
     FromWire, Got, database_is_said, last_pair_counts, order_is_free, written_is_read,
 };
 use std::alloc::Global;
 use std::test::Fail;
-use thrift_binary::{WireFault, WireReader};
+use thrift_binary::{Head, WireFault, WireReader, WireWriter};
 
 fn source(alloc: Global, bytes: &[u8]) -> Result<MemSource, Fail> {
     let bytes = Bytes::from_slice(alloc, bytes)?;
@@ -58,6 +59,39 @@ fn maps_with_lists_as_keys_are_read(rt: HostRuntime) -> Result<(), Fail> {
     let mut reader = WireReader::new(&mut source);
     // The pair whose key is a list of numbers isn't there.
     assert_eq!(rt; count(&PlaceMap::read(alloc, &mut reader)), Some(1));
+    Ok(())
+}
+
+// The message of these bytes: its head, and what it asks.
+fn message(alloc: Global, bytes: &[u8]) -> Result<(Head, Asked), Fail> {
+    let mut source = source(alloc, bytes)?;
+    let mut reader = WireReader::new(&mut source);
+    let head = reader.head(alloc)?.ok_or("no message")?;
+    let asked = asked(alloc, &head, &mut reader)?;
+    Ok((head, asked))
+}
+
+// A reply to the message with this head, that nobody knows its name.
+fn unknown(alloc: Global, head: &Head) -> Result<MemSink, Fail> {
+    let reply = unknown_method(alloc)?;
+    let mut writer = WireWriter::new(alloc);
+    put_reply(&mut writer, head, &reply)?;
+    let mut sink = MemSink::new(alloc, Vec::new(alloc));
+    writer.send(&mut sink)?;
+    Ok(sink)
+}
+
+// A session looks up a message's method once, and hands it on in place of the head.
+#[test]
+fn a_message_and_a_reply_go_by_the_head(rt: HostRuntime) -> Result<(), Fail> {
+    let alloc = rt.alloc();
+    let mut bytes = Vec::new(alloc);
+    put_listing(&mut bytes)?;
+    let (head, asked) = message(alloc, &bytes)?;
+    assert!(rt; matches!(asked, Asked::Client(Call::GetAllDatabases)));
+    let mut wanted = Vec::new(alloc);
+    put_exception(&mut wanted, "get_all_databases", 1, "unknown method", 1)?;
+    assert_eq!(rt; unknown(alloc, &head)?.bytes(), wanted.as_slice());
     Ok(())
 }
 

@@ -4,9 +4,9 @@ use Rattle.ms_session.proofs.Results.{can_call}
 use Rattle.ms_session.proofs.carrying.call_desk.Goals as goal
 
 pub returns-clause-carried : goal.returns-clause-carried
-returns-clause-carried g c =
+returns-clause-carried g c = λ files.
     let t = c.step.ensures.turns in
-    called g.D.Desk.alone (g.D.Desk.caller c.args.desk.now) _ _ t.0 _ c.args.call c.now-moment.result _ _ _ refl refl t.1 t.2 c.step.ensures.sole c.now-moment.ensures.moment c.reply_of.ensures
+    called g.D.Desk.alone (g.D.Desk.caller c.args.desk.now) _ _ t.0 _ c.args.call c.now-moment.result _ _ files _ refl refl t.1 t.2 c.step.ensures.sole c.now-moment.ensures.moment c.reply_of.ensures
 
 pub returns-clause-can : goal.returns-clause-can
 returns-clause-can g c =

@@ -11,6 +11,7 @@ invariant-loop-request g l = record {
   read : g.S.Source.faults l.reader.source.now ≡ g.S.Source.faults l.initial.reader.source.now;
   write : g.K.Sink.faults l.sink ≡ g.K.Sink.faults l.initial.sink;
   clock : g.C.Clock.faults l.initial.clock ≤ g.C.Clock.faults l.clock;
+  folder : l.folder ≡ l.initial.folder;
   empty : l.writer ≡ [];
   unspent : l.reader.progress.fault ≡ None;
   caller : g.D.Desk.caller l.desk ≡ g.D.Desk.caller l.initial.desk;
@@ -18,8 +19,8 @@ invariant-loop-request g l = record {
   legal : Legal (g.D.Desk.start l.initial.desk) (g.D.Desk.history l.initial.desk) → Legal (g.D.Desk.start l.desk) (g.D.Desk.history l.desk);
   counted : NoneAbove (g.D.Desk.faults l.initial.desk) (g.D.Desk.history l.initial.desk) → NoneAbove (g.D.Desk.faults l.desk) (g.D.Desk.history l.desk);
   so_far : Adds g.D.Desk.alone (g.D.Desk.caller l.initial.desk) (g.D.Desk.history l.initial.desk) (g.D.Desk.history l.desk) (λ own.
-      SoFar (record { left = g.S.Source.left l.initial.reader.source.now; held = g.K.Sink.held l.initial.sink; clock = g.C.Clock.moments l.initial.clock })
-      (record { left = g.S.Source.left l.reader.source.now; held = g.K.Sink.held l.sink; clock = g.C.Clock.moments l.clock }) l.reader.progress.place own);
+      SoFar (record { left = g.S.Source.left l.initial.reader.source.now; held = g.K.Sink.held l.initial.sink; clock = g.C.Clock.moments l.initial.clock; files = g.F.Folder.files l.initial.folder })
+      (record { left = g.S.Source.left l.reader.source.now; held = g.K.Sink.held l.sink; clock = g.C.Clock.moments l.clock; files = g.F.Folder.files l.folder }) l.reader.progress.place own);
 }
 
 abbrev pub decreases-loop-request : goal.decreases-loop-request
