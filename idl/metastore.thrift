@@ -19,6 +19,31 @@ struct Database {
 struct GetAllFunctionsResponse {
 }
 
+/** Asks for the events above the number lastEvent; all of them where maxEvents is absent, 0 or negative. */
+struct NotificationEventRequest {
+  1: i64 lastEvent,
+  2: optional i32 maxEvents
+}
+
+/** An event; its message is JSON. */
+struct NotificationEvent {
+  1: i64 eventId,
+  2: i32 eventTime,
+  3: string eventType,
+  4: string dbName,
+  5: optional string tableName,
+  6: string message,
+  7: string messageFormat
+}
+
+struct NotificationEventResponse {
+  1: list<NotificationEvent> events
+}
+
+struct CurrentNotificationEventId {
+  1: i64 eventId
+}
+
 exception AlreadyExistsException {
   1: string message
 }
@@ -57,5 +82,11 @@ service Metastore {
     throws (1: NoSuchObjectException o1, 2: MetaException o2),
 
   list<string> get_all_databases()
+    throws (1: MetaException o1),
+
+  NotificationEventResponse get_next_notification(1: NotificationEventRequest rqst)
+    throws (1: MetaException o1),
+
+  CurrentNotificationEventId get_current_notificationEventId()
     throws (1: MetaException o1)
 }

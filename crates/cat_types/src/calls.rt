@@ -13,6 +13,11 @@ pub enum Call {
     GetDatabase { name: Text },
     /// Makes a database.
     CreateDatabase { db: DbArg },
+    /// The kept events above the number `last`, `max` of them at most; all where `max` is absent, 0
+    /// or negative.
+    GetNextNotification { last: i64, max: Option<i32> },
+    /// The number of the newest event.
+    GetCurrentNotificationEventId,
 }
 
 impl TryCopy for Call {
@@ -27,6 +32,11 @@ impl TryCopy for Call {
                 Ok(db) => Ok(Call::CreateDatabase { db }),
                 Err(NoMemory) => Err(NoMemory),
             },
+            Call::GetNextNotification { last, max } => Ok(Call::GetNextNotification {
+                last: *last,
+                max: *max,
+            }),
+            Call::GetCurrentNotificationEventId => Ok(Call::GetCurrentNotificationEventId),
         }
     }
 }

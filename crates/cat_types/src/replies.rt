@@ -1,5 +1,6 @@
 //! What the catalogue replies.
 
+use crate::Events;
 use cat_values::{CopyParts, DbRec, NoMemory, Text, Texts, TryCopy};
 use std::alloc::Global;
 
@@ -10,10 +11,14 @@ pub enum Reply {
     Nothing,
     /// A number of four bytes.
     Number(i32),
+    /// A number of eight bytes.
+    Big(i64),
     /// Names, in byte order.
     Names(Texts),
     /// A database: its name and what is kept of it.
     Db(Text, DbRec),
+    /// Events, in the order of their numbers.
+    Events(Events),
     /// The call was refused: the number of the refusal, and its text.
     Refused(u8, Text),
 }
@@ -23,12 +28,17 @@ impl TryCopy for Reply {
         match self {
             Reply::Nothing => Ok(Reply::Nothing),
             Reply::Number(number) => Ok(Reply::Number(*number)),
+            Reply::Big(number) => Ok(Reply::Big(*number)),
             Reply::Names(names) => match names.copy(alloc) {
                 Ok(names) => Ok(Reply::Names(names)),
                 Err(NoMemory) => Err(NoMemory),
             },
             Reply::Db(name, rec) => match (name, rec).copy_parts(alloc) {
                 Ok((name, rec)) => Ok(Reply::Db(name, rec)),
+                Err(NoMemory) => Err(NoMemory),
+            },
+            Reply::Events(events) => match events.copy(alloc) {
+                Ok(events) => Ok(Reply::Events(events)),
                 Err(NoMemory) => Err(NoMemory),
             },
             Reply::Refused(number, text) => match text.copy(alloc) {

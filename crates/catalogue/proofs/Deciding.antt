@@ -7,7 +7,7 @@ use Rattle.std.specs.List.{list_all}
 use Rattle.cat_rules.specs.Names.{has_name_length, is_name_byte, is_object_name}
 use Rattle.cat_types.specs.declared.arguments.DbArg.{DbArg}
 use Rattle.cat_types.specs.declared.calls.Call.{Call}
-use Rattle.cat_types.specs.declared.calls.Call.TheVariants.{CreateDatabase, GetAllDatabases, GetDatabase}
+use Rattle.cat_types.specs.declared.calls.Call.TheVariants.{CreateDatabase, GetAllDatabases, GetCurrentNotificationEventId, GetDatabase, GetNextNotification}
 use Rattle.cat_types.specs.declared.changes.Change.{Change}
 use Rattle.cat_types.specs.declared.changes.EventKind.TheVariants as kind
 use Rattle.cat_types.specs.declared.changes.Op.TheVariants.{PutDb}
@@ -105,6 +105,8 @@ change_taken : (cat : Catalogue) (bars : Bars) (call : Call) (moment next : ℕ)
 change_taken cat bars GetAllDatabases moment next c r is = absurd cc
 change_taken cat bars (GetDatabase name) moment next c r is = absurd (no_change (breaks cat bars (GetDatabase name) moment next) c r (result_of cat bars (GetDatabase name) moment next) is)
 change_taken cat bars (CreateDatabase db) moment next c r is = by_create cat db next (create_breaks cat db) (lacks_number (Some (creation db next)) next) c r refl refl is
+change_taken cat bars (GetNextNotification last max) moment next c r is = absurd cc
+change_taken cat bars GetCurrentNotificationEventId moment next c r is = absurd cc
 
 -- what is told of a decision can be taken
 pub all_taken : (cat : Catalogue) (bars : Bars) (call : Call) (moment next : ℕ) (answer : Decided) → Decides (decision cat bars call moment next) answer → IfChange answer (λ c. takes_change cat next c ≡ true)

@@ -3,3 +3,4 @@ pub mod Rules
 pub mod Changes
 pub mod Refusals
 pub mod Decisions
+pub mod Polls

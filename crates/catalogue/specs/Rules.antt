@@ -8,7 +8,7 @@ use Rattle.std.specs.Str.{bytes_eq, str_to_ascii_lowercase}
 use Rattle.cat_rules.specs.Names.{is_object_name}
 use Rattle.cat_types.specs.declared.arguments.DbArg.{DbArg}
 use Rattle.cat_types.specs.declared.calls.Call.{Call}
-use Rattle.cat_types.specs.declared.calls.Call.TheVariants.{CreateDatabase, GetAllDatabases, GetDatabase}
+use Rattle.cat_types.specs.declared.calls.Call.TheVariants.{CreateDatabase, GetAllDatabases, GetCurrentNotificationEventId, GetDatabase, GetNextNotification}
 use Rattle.cat_types.specs.declared.changes.Change.{Change}
 use Rattle.cat_types.specs.declared.changes.EventKind.TheVariants as kind
 use Rattle.cat_types.specs.declared.changes.Op.TheVariants.{PutDb}
@@ -45,11 +45,13 @@ create_breaks cat db =
     else (if nat_le 1000000 (length cat.databases) then Some InvalidObject
     else None))
 
--- the first of its own rules that a call breaks
+-- the first of its own rules that a call breaks; a poll has no rules
 abbrev pub breaks : Catalogue → Bars → Call → ℕ → ℕ → Option Refusal
 breaks cat bars GetAllDatabases moment next = None
 breaks cat bars (GetDatabase name) moment next = if has_database cat (lower name) then None else Some NoSuchObject
 breaks cat bars (CreateDatabase db) moment next = create_breaks cat db
+breaks cat bars (GetNextNotification last max) moment next = None
+breaks cat bars GetCurrentNotificationEventId moment next = None
 
 -- the parameter that shows a replica's position
 abbrev pub position_key : List ℕ
@@ -84,12 +86,16 @@ abbrev pub change : Catalogue → Bars → Call → ℕ → ℕ → Option Chang
 change cat bars GetAllDatabases moment next = None
 change cat bars (GetDatabase name) moment next = None
 change cat bars (CreateDatabase db) moment next = Some (record { kind = kind.CreateDatabase; db = kept_name db.name; db_born = next; ops = PutDb (kept_record db.rec) ∷ [] })
+change cat bars (GetNextNotification last max) moment next = None
+change cat bars GetCurrentNotificationEventId moment next = None
 
--- what an accepted call results in
+-- what an accepted call results in; nothing is said here of a poll, whose result isn't the catalogue's
 abbrev pub result_of : Catalogue → Bars → Call → ℕ → ℕ → Reply
 result_of cat bars GetAllDatabases moment next = Names (keys_of cat.databases)
 result_of cat bars (GetDatabase name) moment next = shown_as (database cat (lower name)) bars.replicas (lower name)
 result_of cat bars (CreateDatabase db) moment next = Nothing
+result_of cat bars (GetNextNotification last max) moment next = Nothing
+result_of cat bars GetCurrentNotificationEventId moment next = Nothing
 
 -- no number is left for the event of a change: it has an operation, and the next number is above the last that an event may have
 abbrev pub lacks_number : Option Change → ℕ → Option Refusal

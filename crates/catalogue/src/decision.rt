@@ -1,8 +1,9 @@
 //! What a call is refused for, changes and results in.
 
-ghost use Rattle.std.specs.Prelude.{◌≡◌, [], ◌∷◌, IfOk, Some, true};
+ghost use Rattle.std.specs.Prelude.{◌≡◌, [], ◌∷◌, IfOk, None, Some, true};
 ghost use Rattle.catalogue.specs.Changes.{takes_change};
 ghost use Rattle.catalogue.specs.Decisions.{Decides, IfChange, decided_by, refused};
+ghost use Rattle.catalogue.specs.Polls.{poll_of};
 ghost use Rattle.catalogue.specs.Rules.{decision, kept_record, lacks_number, lower, ruled};
 ghost use Rattle.cat_types.specs.declared.calls.Call.TheVariants.{CreateDatabase, GetDatabase};
 
@@ -18,11 +19,12 @@ pub const DATABASE_LIMIT: u64 = 1_000_000;
 /// The greatest number of an event.
 pub const LAST_EVENT: u64 = 9_223_372_036_854_775_807;
 
-/// Decides a call over a catalogue: its refusal, or its change and its result. `bars` says what
-/// bars changes, `moment` is the time in seconds since 1970, and `next` the number that an event of
-/// this call would get. A change that it tells can be taken. The calls that are here so far don't
-/// need the moment.
+/// Decides a call over a catalogue: its refusal, or its change and its result. It needs a call that
+/// is no poll. `bars` says what bars changes, `moment` is the time in seconds since 1970, and `next`
+/// the number that an event of this call would get. A change that it tells can be taken. The calls
+/// that are here so far don't need the moment.
 pub fn decide(alloc: Global, cat: &Cat, bars: &Bars, call: &Call, moment: u64, next: u64) -> Decided
+    requires { poll_of call.now ≡ None }
     ensures decided { Decides (decision cat.now bars.now call.now moment next) result }
     ensures taken { IfChange result (λ change. takes_change cat.now next change ≡ true) }
 {
@@ -38,6 +40,7 @@ fn decide_call(
     moment: u64,
     next: u64,
 ) -> Decided
+    requires { poll_of call.now ≡ None }
     ensures { Decides (decision cat.now bars.now call.now moment next) result }
 {
     match decide_by_rules(alloc, cat, bars, call, moment, next) {
@@ -66,6 +69,7 @@ fn decide_by_rules(
     moment: u64,
     next: u64,
 ) -> Decided
+    requires { poll_of call.now ≡ None }
     ensures { Decides (ruled cat.now bars.now call.now moment next) result }
 {
     match call {
@@ -75,6 +79,8 @@ fn decide_by_rules(
         },
         Call::GetDatabase { name } => decide_get(alloc, cat, bars, name, moment, next),
         Call::CreateDatabase { db } => decide_create(alloc, cat, bars, db, moment, next),
+        Call::GetNextNotification { last: _, max: _ } => unreachable!(),
+        Call::GetCurrentNotificationEventId => unreachable!(),
     }
 }
 

@@ -6,6 +6,7 @@ mod cat;
 mod decided;
 mod decision;
 mod placing;
+mod poll;
 mod refusal;
 mod showing;
 
@@ -14,4 +15,5 @@ pub use cat::Cat;
 pub use decided::Decided;
 pub use decision::{DATABASE_LIMIT, LAST_EVENT, decide};
 pub use placing::Placed;
+pub use poll::{Poll, poll_of};
 pub use refusal::Refusal;

@@ -82,4 +82,4 @@ unfolding IsStrictlySortedBy
 new_rise = (tt, tt)
 
 pub of_new_stores : NamesOfNewStoresRise
-of_new_stores id base fault ms = go_on_rising (record { state = start id base; fault = fault }) ms new_rise
+of_new_stores id base fault past ms = go_on_rising (record { state = start id base; fault = fault; past = past }) ms new_rise

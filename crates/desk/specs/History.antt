@@ -7,6 +7,7 @@ use Rattle.cat_types.specs.declared.steps.Step.{Step}
 use Rattle.desk.specs.State.{State, MayAnswer, due, durable, event_of, is_refused, start, state_after_answer, writes}
 use Rattle.desk.specs.declared.entries.CallerStep.{CallerStep}
 use Rattle.desk.specs.declared.entries.Outcome.{Outcome}
+use Rattle.hms_outside.specs.Disks.{Lies}
 
 -- one turn: who asked for which step, what was answered, and the store's fault number afterwards
 abbrev pub Entry : Type 0
@@ -17,10 +18,11 @@ pub data Transition : Type 0 where
   took : Entry → Transition
   reopened : Option ℕ → ℕ → Transition
 
--- a state and the fault number at the opening
+-- a state and the fault number at the opening, and what the store's disk had gone through by then, the newest last; a store in memory has no disk
 pub record Start : Type 0 where
   pub state : State
   pub fault : ℕ
+  pub past : List Lies
 
 -- a writing step that was refused by a fault or for memory, and may yet be found done: what is on the disks with it, and its event
 pub record Pending : Type 0 where
@@ -129,7 +131,7 @@ abbrev pub run_of : State → List ℕ → ℕ → List Entry → Run
 run_of state id base history = record { state = state; id = id; base = base; history = history }
 
 abbrev pub start_of : Run → Start
-start_of r = record { state = start r.id r.base; fault = 0 }
+start_of r = record { state = start r.id r.base; fault = 0; past = [] }
 
 -- its history is legal, and ends in its state with no fault counted
 pub record IsRun (r : Run) : Type 0 where

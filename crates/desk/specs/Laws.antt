@@ -1,16 +1,20 @@
 -- What follows from histories.
-use Rattle.std.specs.Prelude.{◌≡◌, ◌≢◌, ◌⊎◌, ◌↔◌, ℕ, ◌+◌, ◌≤◌, Bool, true, false, not, ◌&&◌, List, [], ◌∷◌, ◌++◌, length, Option, Some, None, option_to_list, if◌then◌else◌}
+use Rattle.std.specs.Prelude.{◌≡◌, ◌≢◌, ◌⊎◌, ◌↔◌, ℕ, ◌+◌, ◌≤◌, Bool, true, false, not, ◌&&◌, List, [], ◌∷◌, ◌++◌, length, Option, Some, None, option_to_list, IsSome, if◌then◌else◌}
 use Rattle.std.specs.Cmp.Lexicographic.{slice_cmp}
 use Rattle.std.specs.List.Sorted.{IsStrictlySortedBy}
 use Rattle.std.specs.Map.{keys_of}
 use Rattle.std.specs.Ordering.{nat_cmp}
+use Rattle.cat_types.specs.declared.calls.Call.{Call}
 use Rattle.cat_types.specs.declared.changes.Event.{Event}
 use Rattle.cat_types.specs.declared.steps.Answer.TheVariants as answer
 use Rattle.cat_types.specs.declared.steps.Step.{Step}
+use Rattle.cat_types.specs.declared.steps.Step.TheVariants.{Client}
 use Rattle.catalogue.specs.Catalogue.{Catalogue}
 use Rattle.catalogue.specs.Changes.{done}
+use Rattle.catalogue.specs.Polls.{poll_of}
 use Rattle.desk.specs.History.{Entry, Transition, took, reopened, Point, Start, MayFollow, events_at, events_from, next, point_after, point_of}
 use Rattle.desk.specs.State.{State, due, durable, event_of, is_refused, start, writes}
+use Rattle.hms_outside.specs.Disks.{Lies}
 
 -- ---- a change and its event
 
@@ -90,6 +94,10 @@ AllUnsettledAreFound = (s : Start) (history : List Transition) (n fault : ℕ) (
 abbrev pub WritesWhereTheDisksChange : Type 0
 WritesWhereTheDisksChange = (s : State) (caller : ℕ) (step : Step) → (writes s step ≡ true) ↔ (durable (due s caller step).state ≢ durable s)
 
+-- A poll writes nothing.
+abbrev pub PollsWriteNothing : Type 0
+PollsWriteNothing = (s : State) (call : Call) (moment : ℕ) → IsSome (poll_of call) → writes s (Client call moment) ≡ false
+
 -- ---- what an opening gives
 
 -- An opening that finds no step done gives what is on the disks of the state before it.
@@ -113,5 +121,5 @@ NamesGoOnRising = (s : Start) (history : List Transition) → NamesRise s.state.
 
 -- Names rise after every history of a new store.
 abbrev pub NamesOfNewStoresRise : Type 0
-NamesOfNewStoresRise = (id : List ℕ) (base fault : ℕ) (history : List Transition)
-    → NamesRise (point_after (point_of (record { state = start id base; fault = fault })) history).state.catalogue
+NamesOfNewStoresRise = (id : List ℕ) (base fault : ℕ) (past : List Lies) (history : List Transition)
+    → NamesRise (point_after (point_of (record { state = start id base; fault = fault; past = past })) history).state.catalogue

@@ -1,3 +1,4 @@
+pub mod Polls
 pub mod State
 pub mod History
 pub mod Entries

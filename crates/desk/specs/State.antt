@@ -11,9 +11,12 @@ use Rattle.cat_types.specs.declared.steps.Step.TheVariants.{Client}
 use Rattle.catalogue.specs.Catalogue.{Catalogue, new_catalogue}
 use Rattle.catalogue.specs.Changes.{done, has_operation}
 use Rattle.catalogue.specs.Decisions.{Decision, accepted, refused}
+use Rattle.catalogue.specs.Polls.{poll_of}
 use Rattle.catalogue.specs.Refusals.{refusal_reply}
 use Rattle.catalogue.specs.Rules.{decision}
 use Rattle.catalogue.specs.declared.bars.Bars.{Bars}
+use Rattle.catalogue.specs.declared.poll.Poll.{Poll}
+use Rattle.desk.specs.Polls.{poll_reply}
 use Rattle.hms_outside.specs.Causes.{Rose}
 
 -- the store's id, its catalogue, the kept events, the number of the first one that is kept, the newest event number, and the last number of a dump
@@ -37,7 +40,7 @@ durable state = state
 abbrev pub bars_of : State → Bars
 bars_of state = record { replicas = []; dumping = []; loading = [] }
 
--- what is decided of a call in a state
+-- what is decided of a call in a state; a poll changes nothing, and its result isn't looked up here
 abbrev pub decision_of : State → Call → ℕ → Decision
 decision_of state call moment = decision state.catalogue (bars_of state) call moment (state.newest + 1)
 
@@ -102,9 +105,14 @@ abbrev pub reply_by : Decision → Reply
 reply_by (refused refusal) = refusal_reply refusal
 reply_by (accepted change result) = result
 
+-- the reply to a call: a poll is answered from the kept events, and any other call by its decision
+abbrev pub reply_in : State → Option Poll → Decision → Reply
+reply_in state (Some poll) decision = poll_reply state.events state.newest poll
+reply_in state None decision = reply_by decision
+
 -- the one answer to a caller's step, and the one state after it
 abbrev pub due : State → ℕ → Step → Due
-due state caller (Client call moment) = record { answer = answer.Reply (reply_by (decision_of state call moment)); state = with_written (writing state (Client call moment)) state }
+due state caller (Client call moment) = record { answer = answer.Reply (reply_in state (poll_of call) (decision_of state call moment)); state = with_written (writing state (Client call moment)) state }
 
 -- ---- which answers may be given
 

@@ -5,7 +5,8 @@ ghost use Rattle.desk.specs.History.{Entry, Legal, NoneAbove, Start};
 
 use cat_types::{Answer, Step};
 
-/// A store, which stands for a history from a start: a state and the fault number at the opening.
+/// A store, which stands for a history from a start: a state and the fault number at the opening, and
+/// what its disk had gone through by then.
 pub trait Core {
     /// The start of its history.
     ghost start: { Self → Start };

@@ -8,6 +8,7 @@ ghost use Rattle.desk.specs.Laws.{
   OnlyUnsettledAreFound,
   OpenedIsDurable,
   OpeningsGiveTheDisks,
+  PollsWriteNothing,
   WritesWhereTheDisksChange,
 };
 
@@ -26,9 +27,11 @@ pub fn openings_find_refused_steps()
     ensures all { AllUnsettledAreFound }
 {}
 
-/// A step writes exactly where the due state after it has something else on the disks.
+/// A step writes exactly where the due state after it has something else on the disks; a poll never
+/// writes.
 pub fn steps_write_where_the_disks_change()
-    ensures { WritesWhereTheDisksChange }
+    ensures disks { WritesWhereTheDisksChange }
+    ensures polls { PollsWriteNothing }
 {}
 
 /// An opening that finds no step done gives what is on the disks, and after any opening all of the state

@@ -10,6 +10,7 @@ mod laws;
 mod local;
 mod mem_core;
 mod mem_store;
+mod polling;
 mod script;
 
 pub use core_trait::Core;
@@ -22,4 +23,5 @@ pub use laws::{
 };
 pub use local::LocalDesk;
 pub use mem_core::MemCore;
+pub use polling::{EVENT_LIMIT, reply_to_poll};
 pub use script::{Script, ScriptDesk};

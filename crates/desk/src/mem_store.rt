@@ -1,12 +1,15 @@
 //! What a store in memory keeps.
 
-ghost use Rattle.std.specs.Prelude.{◌≡◌, ◌+◌, ◌≤◌, true, IfOk, OnErr, OnOk, Some};
+ghost use Rattle.std.specs.Prelude.{◌≡◌, ◌+◌, ◌≤◌, true, IfOk, None, OnErr, OnOk, Some};
 ghost use Rattle.cat_types.specs.declared.steps.Step.TheVariants.{Client};
 ghost use Rattle.catalogue.specs.Changes.{takes_change};
+ghost use Rattle.catalogue.specs.Polls.{poll_of};
 ghost use Rattle.desk.specs.State.{Takes, kept, next_event, start, with_written};
 
+use crate::reply_to_poll;
 use cat_types::{Answer, Call, Change, Event, ListOf, NoMemory, Step};
-use catalogue::{Bars, Cat, Decided, LAST_EVENT, decide};
+use catalogue::{Bars, Cat, Decided, decide, poll_of};
+use notify_log::EventLog;
 use std::alloc::Global;
 use std::marker::Model;
 
@@ -16,21 +19,21 @@ pub struct MemStore {
     alloc: Global,
     id: [u8; 16],
     cat: Cat,
-    events: Vec<Event>,
-    first: u64,
+    log: EventLog,
     newest: u64,
     last_dump: u64,
 }
 
 impl Model for MemStore {
-    ghost use Rattle.std.specs.Prelude.{◌≤◌};
+    ghost use Rattle.std.specs.Prelude.{◌≡◌, ◌+◌, ◌≤◌};
     ghost use Rattle.desk.specs.State.{State};
+    ghost use Rattle.notify_log.specs.Logs.{next_number};
 
     ghost Value = { State };
 
-    ghost view = { λ m. record { id = m.id; catalogue = m.cat; events = m.events.items; first = m.first; newest = m.newest; last_dump = m.last_dump } };
+    ghost view = { λ m. record { id = m.id; catalogue = m.cat; events = m.log.events; first = m.log.first; newest = m.newest; last_dump = m.last_dump } };
 
-    ghost invariant = { λ m. m.newest ≤ 9223372036854775807 };
+    ghost invariant = { λ m. (m.newest ≤ 9223372036854775807) × (next_number m.log ≡ m.newest + 1) × (1 ≤ m.log.first) };
 }
 
 impl MemStore {
@@ -43,8 +46,7 @@ impl MemStore {
             alloc,
             id,
             cat: Cat::new(alloc)?,
-            events: Vec::new(alloc),
-            first: base + 1,
+            log: EventLog::new(alloc, base + 1),
             newest: base,
             last_dump: 0,
         })
@@ -59,8 +61,22 @@ impl MemStore {
         }
     }
 
-    // Takes a call of the catalogue.
-    fn take_call(&mut self, _caller: u32, call: &Call, moment: u64) -> Answer
+    // Takes a call: a poll, or one that the catalogue decides.
+    fn take_call(&mut self, caller: u32, call: &Call, moment: u64) -> Answer
+        ensures { Takes self.old caller (Client call.now moment) result self.new }
+    {
+        match poll_of(call) {
+            Some(poll) => match reply_to_poll(&self.log, self.newest, &poll) {
+                Ok(reply) => Answer::Reply(reply),
+                Err(NoMemory) => Answer::NoMemory,
+            },
+            None => self.decide_call(caller, call, moment),
+        }
+    }
+
+    // Decides a call that is no poll, and does what it changes.
+    fn decide_call(&mut self, _caller: u32, call: &Call, moment: u64) -> Answer
+        requires { poll_of call.now ≡ None }
         ensures { Takes self.old _caller (Client call.now moment) result self.new }
     {
         let bars = Bars {
@@ -78,15 +94,16 @@ impl MemStore {
         }
     }
 
-    // Does a change, and keeps its event.
+    // Does a change, and keeps its event, for which there is room before anything is placed.
     fn accept(&mut self, change: Change, moment: u64) -> Result<(), NoMemory>
         requires { takes_change self.old.catalogue (self.old.newest + 1) change ≡ true }
         ensures ok { OnOk result (self.new ≡ with_written (Some (kept (next_event self.old moment change))) self.old) }
         ensures err { OnErr result (self.new ≡ self.old) }
     {
+        self.log.reserve()?;
         let placed = self.cat.place(&change)?;
         let id = self.newest + 1;
-        match self.events.push(Event { id, moment, change }) {
+        match self.log.push(Event { id, moment, change }) {
             Ok(()) => {
                 self.cat.settle(placed);
                 self.newest = id;

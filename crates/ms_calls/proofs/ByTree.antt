@@ -5,9 +5,11 @@ use Rattle.ms_calls.specs.declared.method.Method.TheVariants as method
 use Rattle.ms_calls.specs.declared.naming.NameArgument.{NameArgument}
 use Rattle.ms_calls.specs.declared.creating.DatabaseArgument.{DatabaseArgument}
 use Rattle.ms_calls.specs.declared.ugi.UserArguments.{UserArguments}
-use Rattle.ms_calls.specs.Arguments.{name_none, name_set, name_asks, get_database_asks, db_none, db_set, db_asks, create_database_asks, user_none, user_set, user_asks, set_ugi_asks}
+use Rattle.ms_calls.specs.Arguments.{name_none, name_set, name_asks, get_database_asks, db_none, db_set, db_asks, create_database_asks, request_none, request_set, request_asks, next_notification_asks, user_none, user_set, user_asks, set_ugi_asks}
 use Rattle.ms_calls.specs.Asked.{asked_by, SameByIds, OrderOfFieldsIsFree}
+use Rattle.ms_calls.specs.declared.polling.RequestArgument.{RequestArgument}
 use Rattle.ms_structs.specs.Database.{database_of}
+use Rattle.ms_structs.specs.Notifications.{request_of}
 use Rattle.ms_calls.specs.Methods.{method_named}
 use Rattle.ms_structs.specs.Slots.{said, over, fold_fields}
 use Rattle.thrift_binary.specs.Tree.{Fields, NoFields, Field}
@@ -28,6 +30,13 @@ db_over f (Field ty id w v) = db_over (db_set f ty id w) v ∙ rw (slot_over (po
 
 pub db_asked : (v : Fields) → db_asks (fold_fields db_set db_none v) ≡ asked_by (Some method.CreateDatabase) v
 db_asked v = ap db_asks (db_over db_none v) ∙ ap create_database_asks (over_nothing (said (pos 1) 12 database_of v))
+
+request_over : (f : RequestArgument) (v : Fields) → fold_fields request_set f v ≡ record { request = over (said (pos 1) 12 request_of v) f.request }
+request_over f NoFields = refl
+request_over f (Field ty id w v) = request_over (request_set f ty id w) v ∙ rw (slot_over (pos 1) 12 request_of (said (pos 1) 12 request_of v) f.request ty id w) refl
+
+pub request_asked : (v : Fields) → request_asks (fold_fields request_set request_none v) ≡ asked_by (Some method.GetNextNotification) v
+request_asked v = ap request_asks (request_over request_none v) ∙ ap next_notification_asks (over_nothing (said (pos 1) 12 request_of v))
 
 user_over : (f : UserArguments) (v : Fields) → fold_fields user_set f v ≡ record { user = over (said (pos 1) 11 text_of v) f.user; groups = over (said (pos 2) 15 (items_of 11 text_of) v) f.groups }
 user_over f NoFields = refl
@@ -51,6 +60,8 @@ order_by (Some method.GetAllFunctions) v w same = refl
 order_by (Some method.CreateDatabase) v w same = ap create_database_asks (said_same (pos 1) 12 database_of v w same)
 order_by (Some method.GetDatabase) v w same = ap get_database_asks (said_same (pos 1) 11 text_of v w same)
 order_by (Some method.GetAllDatabases) v w same = refl
+order_by (Some method.GetNextNotification) v w same = ap next_notification_asks (said_same (pos 1) 12 request_of v w same)
+order_by (Some method.GetCurrentNotificationEventId) v w same = refl
 
 pub order_is_free : OrderOfFieldsIsFree
 order_is_free name v w same = order_by (method_named name) v w same

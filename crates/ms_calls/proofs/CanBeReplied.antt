@@ -6,6 +6,8 @@ use Rattle.ms_structs.specs.declared.got.Got.{Got}
 use Rattle.ms_structs.specs.declared.got.Got.TheVariants.{Nothing, BadText, Is}
 use Rattle.ms_structs.specs.Database.{database_of}
 use Rattle.ms_structs.specs.Getting.{Gets}
+use Rattle.ms_structs.specs.Notifications.{request_of}
+use Rattle.ms_structs.specs.declared.notification_request.NotificationRequest.{NotificationRequest}
 use Rattle.ms_structs.specs.Slots.{said}
 use Rattle.ms_structs.specs.Values.{items_of, text_of}
 use Rattle.thrift_binary.specs.declared.fault.WireFault.{WireFault}
@@ -16,7 +18,7 @@ use Rattle.thrift_binary.specs.Wire.{IsWire}
 use Rattle.ms_calls.specs.declared.method.Method.{Method}
 use Rattle.ms_calls.specs.declared.method.Method.TheVariants as method
 use Rattle.ms_calls.specs.declared.request.Asked.{Asked}
-use Rattle.ms_calls.specs.Arguments.{create_database_asks, get_database_asks, set_ugi_asks}
+use Rattle.ms_calls.specs.Arguments.{create_database_asks, get_database_asks, next_notification_asks, set_ugi_asks}
 use Rattle.ms_calls.specs.Asked.{CameAs, IfClient, IfPlain, asked_by}
 use Rattle.ms_calls.specs.Replies.{CanReply}
 
@@ -32,6 +34,11 @@ db_fits : (db : Got DbArg) → Fits (Some method.CreateDatabase) (create_databas
 db_fits Nothing = (tt, tt)
 db_fits BadText = (tt, tt)
 db_fits (Is db) = (tt, refl)
+
+request_fits : (request : Got NotificationRequest) → Fits (Some method.GetNextNotification) (next_notification_asks request)
+request_fits Nothing = (tt, tt)
+request_fits BadText = (tt, tt)
+request_fits (Is request) = (tt, refl)
 
 user_fits : (user : Got (List ℕ)) (groups : Got (List (List ℕ))) → Fits (Some method.SetUgi) (set_ugi_asks user groups)
 user_fits Nothing groups = (tt, tt)
@@ -50,6 +57,8 @@ asked_fits (Some method.GetAllFunctions) v = (refl, tt)
 asked_fits (Some method.CreateDatabase) v = db_fits (said (pos 1) 12 database_of v)
 asked_fits (Some method.GetDatabase) v = name_fits (said (pos 1) 11 text_of v)
 asked_fits (Some method.GetAllDatabases) v = (tt, refl)
+asked_fits (Some method.GetNextNotification) v = request_fits (said (pos 1) 12 request_of v)
+asked_fits (Some method.GetCurrentNotificationEventId) v = (tt, refl)
 
 -- so does what was read
 pub read_fits : (m : Option Method) (a b : Option (List ℕ)) (p q : Progress) (result : Result Asked WireFault) (depth : ℕ) (Stops : Stop → List ℕ → Type 0)

@@ -1,3 +1,4 @@
 mod ByTree
 mod Structs
 mod CanBeReplied
+mod UnderZero

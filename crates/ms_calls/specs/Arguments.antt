@@ -1,7 +1,7 @@
 -- The arguments of calls: the slots that their fields fill, and what they ask.
 use Rattle.std.specs.Prelude.{ℕ, List, [], ◌∷◌, ◌++◌, ℤ, pos}
 use Rattle.cat_types.specs.declared.arguments.DbArg.{DbArg}
-use Rattle.cat_types.specs.declared.calls.Call.TheVariants.{CreateDatabase, GetDatabase}
+use Rattle.cat_types.specs.declared.calls.Call.TheVariants.{CreateDatabase, GetDatabase, GetNextNotification}
 use Rattle.cat_types.specs.declared.replies.Reply.TheVariants.{Names}
 use Rattle.ms_calls.specs.declared.request.Asked.{Asked}
 use Rattle.ms_calls.specs.declared.request.Asked.TheVariants.{Client, Plain, BadArgument}
@@ -9,8 +9,11 @@ use Rattle.ms_calls.specs.declared.creating.DatabaseArgument.{DatabaseArgument}
 use Rattle.ms_structs.specs.declared.got.Got.{Got}
 use Rattle.ms_structs.specs.declared.got.Got.TheVariants.{Nothing, BadText, Is}
 use Rattle.ms_calls.specs.declared.naming.NameArgument.{NameArgument}
+use Rattle.ms_calls.specs.declared.polling.RequestArgument.{RequestArgument}
 use Rattle.ms_calls.specs.declared.ugi.UserArguments.{UserArguments}
 use Rattle.ms_structs.specs.Database.{database_of}
+use Rattle.ms_structs.specs.Notifications.{request_of}
+use Rattle.ms_structs.specs.declared.notification_request.NotificationRequest.{NotificationRequest}
 use Rattle.ms_structs.specs.Slots.{slot}
 use Rattle.thrift_binary.specs.Codes.{list_code, struct_code, text_code}
 use Rattle.thrift_binary.specs.Tree.{Wire}
@@ -53,6 +56,19 @@ db_set f ty id w = record { db = slot (pos 1) struct_code database_of f.db ty id
 
 abbrev pub db_asks : DatabaseArgument → Asked
 db_asks f = create_database_asks f.db
+
+-- get_next_notification: 1 the request
+abbrev pub next_notification_asks : Got NotificationRequest → Asked
+next_notification_asks request = needed (pos 1) request (λ request. Client (GetNextNotification request.last request.max))
+
+abbrev pub request_none : RequestArgument
+request_none = record { request = Nothing }
+
+abbrev pub request_set : RequestArgument → ℕ → ℤ → Wire → RequestArgument
+request_set f ty id w = record { request = slot (pos 1) struct_code request_of f.request ty id w }
+
+abbrev pub request_asks : RequestArgument → Asked
+request_asks f = next_notification_asks f.request
 
 -- set_ugi: 1 the user, 2 the groups; it is answered the groups, and behind them the user
 abbrev pub set_ugi_asks : Got (List ℕ) → Got (List (List ℕ)) → Asked

@@ -1,15 +1,16 @@
 -- What a message asks. It depends on the call's name and on what is said of each argument: by the last field with the argument's id and type.
 use Rattle.std.specs.Prelude.{◌≡◌, ⊤, ℕ, List, [], ◌∷◌, Option, None, Some, ℤ, pos, codes}
 use Rattle.cat_types.specs.declared.calls.Call.{Call}
-use Rattle.cat_types.specs.declared.calls.Call.TheVariants.{CreateDatabase, GetAllDatabases, GetDatabase}
+use Rattle.cat_types.specs.declared.calls.Call.TheVariants.{CreateDatabase, GetAllDatabases, GetCurrentNotificationEventId, GetDatabase, GetNextNotification}
 use Rattle.cat_types.specs.declared.replies.Reply.{Reply}
 use Rattle.cat_types.specs.declared.replies.Reply.TheVariants.{Names, Nothing, Number}
 use Rattle.ms_calls.specs.declared.request.Asked.{Asked}
 use Rattle.ms_calls.specs.declared.request.Asked.TheVariants.{BadArgument, Client, Plain, Unknown, Shutdown}
 use Rattle.ms_calls.specs.declared.method.Method.{Method}
 use Rattle.ms_calls.specs.declared.method.Method.TheVariants as method
-use Rattle.ms_calls.specs.Arguments.{create_database_asks, get_database_asks, set_ugi_asks}
+use Rattle.ms_calls.specs.Arguments.{create_database_asks, get_database_asks, next_notification_asks, set_ugi_asks}
 use Rattle.ms_structs.specs.Database.{database_of}
+use Rattle.ms_structs.specs.Notifications.{request_of}
 use Rattle.ms_calls.specs.Methods.{method_named}
 use Rattle.ms_structs.specs.Slots.{only, said}
 use Rattle.thrift_binary.specs.Codes.{list_code, struct_code, text_code}
@@ -30,6 +31,8 @@ asked_by (Some method.GetAllFunctions) v = Plain Nothing
 asked_by (Some method.CreateDatabase) v = create_database_asks (said (pos 1) struct_code database_of v)
 asked_by (Some method.GetDatabase) v = get_database_asks (said (pos 1) text_code text_of v)
 asked_by (Some method.GetAllDatabases) v = Client GetAllDatabases
+asked_by (Some method.GetNextNotification) v = next_notification_asks (said (pos 1) struct_code request_of v)
+asked_by (Some method.GetCurrentNotificationEventId) v = Client GetCurrentNotificationEventId
 
 -- a message with this name
 abbrev pub asked_of : List ℕ → Fields → Asked
@@ -56,6 +59,8 @@ abbrev pub IsMethodOf : Call → Method → Type 0
 IsMethodOf GetAllDatabases named = named ≡ method.GetAllDatabases
 IsMethodOf (GetDatabase name) named = named ≡ method.GetDatabase
 IsMethodOf (CreateDatabase db) named = named ≡ method.CreateDatabase
+IsMethodOf (GetNextNotification last max) named = named ≡ method.GetNextNotification
+IsMethodOf GetCurrentNotificationEventId named = named ≡ method.GetCurrentNotificationEventId
 
 -- a call of the catalogue came under a name that makes it
 abbrev pub CameAs : Option Method → Call → Type 0

@@ -1,7 +1,7 @@
 -- How refusals are told.
 use Rattle.std.specs.Prelude.{◌==◌, ◌||◌, ℕ, Option, None, Some, ℤ, pos, if◌then◌else◌}
 use Rattle.ms_calls.specs.declared.method.Method.{Method}
-use Rattle.ms_calls.specs.declared.method.Method.TheVariants.{GetName, GetStatus, Shutdown, SetUgi, GetAllFunctions, CreateDatabase, GetDatabase, GetAllDatabases}
+use Rattle.ms_calls.specs.declared.method.Method.TheVariants.{GetName, GetStatus, Shutdown, SetUgi, GetAllFunctions, CreateDatabase, GetDatabase, GetAllDatabases, GetNextNotification, GetCurrentNotificationEventId}
 use Rattle.ms_calls.specs.declared.exception.Exception.{Exception}
 use Rattle.ms_calls.specs.declared.exception.Exception.TheVariants.{AlreadyExists, NoSuchObject, InvalidObject, InvalidOperation, InvalidInput, Meta}
 
@@ -73,6 +73,8 @@ exception_id GetAllFunctions exception = meta_alone exception
 exception_id CreateDatabase exception = exists_invalid_meta exception
 exception_id GetDatabase exception = missing_meta exception
 exception_id GetAllDatabases exception = meta_alone exception
+exception_id GetNextNotification exception = meta_alone exception
+exception_id GetCurrentNotificationEventId exception = meta_alone exception
 
 -- the field under which a call declares the exception of a refusal
 abbrev pub id_of : Method → Option Exception → Option ℤ

@@ -4,7 +4,7 @@ use Rattle.std.specs.Str.{bytes_eq}
 use Rattle.ms_calls.specs.declared.method.Method.{Method}
 use Rattle.ms_calls.specs.declared.method.Method.TheVariants as method
 use Rattle.ms_calls.specs.declared.method.ResultType.{ResultType}
-use Rattle.ms_calls.specs.declared.method.ResultType.TheVariants.{NoReply, NoField, EmptyStruct, OneText, TextList, Int, Database}
+use Rattle.ms_calls.specs.declared.method.ResultType.TheVariants.{NoReply, NoField, EmptyStruct, OneText, TextList, Int, Database, Events, NewestEvent}
 
 -- the call whose messages have this name
 unfoldable pub method_named : List ℕ → Option Method
@@ -17,7 +17,9 @@ method_named name =
     else (if bytes_eq name (codes "create_database") then Some method.CreateDatabase
     else (if bytes_eq name (codes "get_database") then Some method.GetDatabase
     else (if bytes_eq name (codes "get_all_databases") then Some method.GetAllDatabases
-    else None)))))))
+    else (if bytes_eq name (codes "get_next_notification") then Some method.GetNextNotification
+    else (if bytes_eq name (codes "get_current_notificationEventId") then Some method.GetCurrentNotificationEventId
+    else None)))))))))
 
 -- what a call results in
 abbrev pub result_type : Method → ResultType
@@ -29,3 +31,5 @@ result_type method.GetAllFunctions = EmptyStruct
 result_type method.CreateDatabase = NoField
 result_type method.GetDatabase = Database
 result_type method.GetAllDatabases = TextList
+result_type method.GetNextNotification = Events
+result_type method.GetCurrentNotificationEventId = NewestEvent

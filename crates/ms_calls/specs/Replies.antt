@@ -1,5 +1,5 @@
 -- The reply to a message: which replies a call can have, and how each is sent.
-use Rattle.std.specs.Prelude.{ℕ, List, [], ◌∷◌, Option, None, Some, IsSome, ℤ, pos}
+use Rattle.std.specs.Prelude.{ℕ, List, [], ◌∷◌, map, Option, None, Some, IsSome, ℤ, pos}
 use Rattle.cat_types.specs.declared.replies.Reply.{Reply}
 use Rattle.cat_types.specs.declared.replies.Reply.TheVariants as reply
 use Rattle.thrift_binary.specs.Codes as codes
@@ -11,7 +11,9 @@ use Rattle.ms_calls.specs.declared.method.ResultType.{ResultType}
 use Rattle.ms_calls.specs.declared.method.ResultType.TheVariants as of
 use Rattle.ms_calls.specs.Methods.{result_type}
 use Rattle.ms_calls.specs.Exceptions.{general_code, declared_id}
+use Rattle.ms_structs.specs.Notifications.{events_fields, newest_fields}
 use Rattle.ms_structs.specs.Written.{texts_tree, database_fields}
+use Rattle.notify_log.specs.Messages.{message_text}
 
 -- these fields, or none
 abbrev pub or_none : Option Fields → Fields
@@ -32,6 +34,8 @@ result_fields of.OneText (reply.Names texts) = one_text texts
 result_fields of.TextList (reply.Names texts) = Some (Field list_code (pos 0) (texts_tree texts) NoFields)
 result_fields of.Int (reply.Number number) = Some (Field i32_code (pos 0) (Number number) NoFields)
 result_fields of.Database (reply.Db name rec) = Some (Field struct_code (pos 0) (Struct (database_fields name rec)) NoFields)
+result_fields of.Events (reply.Events events) = Some (Field struct_code (pos 0) (Struct (events_fields events (map message_text events))) NoFields)
+result_fields of.NewestEvent (reply.Big number) = Some (Field struct_code (pos 0) (Struct (newest_fields number)) NoFields)
 result_fields type reply = None
 
 -- a TApplicationException: the text, and the code
@@ -74,8 +78,10 @@ abbrev pub reply_kind : Reply → ℕ
 reply_kind (reply.Refused number text) = kind_of (general_code number)
 reply_kind reply.Nothing = codes.reply_kind
 reply_kind (reply.Number number) = codes.reply_kind
+reply_kind (reply.Big number) = codes.reply_kind
 reply_kind (reply.Names texts) = codes.reply_kind
 reply_kind (reply.Db name rec) = codes.reply_kind
+reply_kind (reply.Events events) = codes.reply_kind
 
 -- a reply repeats the message's name and sequence id
 abbrev pub reply_head : Head → Reply → Head

@@ -12,7 +12,8 @@ ghost use Rattle.thrift_binary.specs.Tree.{Struct};
 ghost use Rattle.thrift_binary.specs.Wire.{IsWire, StopsWire};
 
 use crate::{
-    Asked, DatabaseArgument, Method, NameArgument, UserArguments, method_named, read_arguments,
+    Asked, DatabaseArgument, Method, NameArgument, RequestArgument, UserArguments, method_named,
+    read_arguments,
 };
 use cat_types::{Call, ListOf, NoMemory, Reply, Text, Texts};
 use hms_outside::Source;
@@ -82,6 +83,11 @@ fn read_asked<S: Source>(
         Some(Method::GetAllDatabases) => skip_arguments(
             reader,
             Asked::Client(Call::GetAllDatabases),
+        ),
+        Some(Method::GetNextNotification) => read_arguments::<RequestArgument, S>(alloc, reader),
+        Some(Method::GetCurrentNotificationEventId) => skip_arguments(
+            reader,
+            Asked::Client(Call::GetCurrentNotificationEventId),
         ),
     }
 }

@@ -61,6 +61,9 @@ impl Method {
             Method::SetUgi | Method::GetAllFunctions | Method::GetAllDatabases => {
                 meta_alone(exception)
             }
+            Method::GetNextNotification | Method::GetCurrentNotificationEventId => {
+                meta_alone(exception)
+            }
             Method::CreateDatabase => exists_invalid_meta(exception),
             Method::GetDatabase => missing_meta(exception),
         }

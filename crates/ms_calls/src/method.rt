@@ -14,6 +14,8 @@ pub enum Method {
     CreateDatabase,
     GetDatabase,
     GetAllDatabases,
+    GetNextNotification,
+    GetCurrentNotificationEventId,
 }
 
 /// What stands under field 0 of the struct that replies to a call.
@@ -33,6 +35,10 @@ pub enum ResultType {
     Int,
     /// A database.
     Database,
+    /// Events, each with its message.
+    Events,
+    /// The number of the newest event.
+    NewestEvent,
 }
 
 /// The call whose messages have this name.
@@ -49,6 +55,8 @@ pub fn method_named(name: &str) -> Option<Method>
         "create_database" => Some(Method::CreateDatabase),
         "get_database" => Some(Method::GetDatabase),
         "get_all_databases" => Some(Method::GetAllDatabases),
+        "get_next_notification" => Some(Method::GetNextNotification),
+        "get_current_notificationEventId" => Some(Method::GetCurrentNotificationEventId),
         _ => None,
     }
 }
@@ -67,6 +75,8 @@ impl Method {
             Method::CreateDatabase => ResultType::NoField,
             Method::GetDatabase => ResultType::Database,
             Method::GetAllDatabases => ResultType::TextList,
+            Method::GetNextNotification => ResultType::Events,
+            Method::GetCurrentNotificationEventId => ResultType::NewestEvent,
         }
     }
 }

@@ -1,16 +1,24 @@
 //! Replies to messages.
 
-ghost use Rattle.std.specs.Prelude.{◌≡◌, ◌==◌, IsSome};
+ghost use Rattle.std.specs.Prelude.{◌≡◌, ◌==◌, IfOk, IsSome, map, pos};
 ghost use Rattle.thrift_binary.specs.Codes.{oneway_kind, struct_code};
 ghost use Rattle.thrift_binary.specs.Sending.{Gathers};
 ghost use Rattle.thrift_binary.specs.Strict.{fields_bytes, message_bytes, wire_bytes};
+ghost use Rattle.thrift_binary.specs.Tree.{Field, NoFields, Struct};
+ghost use Rattle.ms_structs.specs.Notifications.{events_fields, newest_fields};
+ghost use Rattle.notify_log.specs.Messages.{message_text};
 ghost use Rattle.ms_calls.specs.Methods.{method_named};
 ghost use Rattle.ms_calls.specs.Replies.{CanReply, declared_fields, exception_tree, general_fields, one_text, or_none, refused_as, reply_fields, reply_head, reply_kind, result_fields};
 
 use crate::exception::{declared_id, general_code};
 use crate::{Method, ResultType, method_named};
-use cat_types::{NoMemory, Reply, Text, Texts};
-use ms_structs::{put_texts, write_database, write_get_all_functions_response};
+use cat_types::{Event, Events, ListOf, NoMemory, Reply, Text, Texts};
+use ms_structs::{
+    put_texts, write_current_notification_event_id, write_database,
+    write_get_all_functions_response, write_notification_event_response,
+};
+use notify_log::message;
+use std::alloc::Global;
 use thrift_binary::{Head, WireWriter, message_kind, type_code};
 
 /// Whether the sender of a message wants no reply.
@@ -23,16 +31,22 @@ pub fn is_one_way(head: &Head) -> bool
 /// Gathers the reply to the message with this head, in the strict spelling of Thrift's binary
 /// protocol: a result under field 0, an exception under the id at which the call declares it, or a
 /// TApplicationException in a message of kind 3.
-pub fn put_reply(writer: &mut WireWriter, head: &Head, reply: &Reply) -> Result<(), NoMemory>
+pub fn put_reply(
+    alloc: Global,
+    writer: &mut WireWriter,
+    head: &Head,
+    reply: &Reply,
+) -> Result<(), NoMemory>
     requires { CanReply (method_named head.now.name) reply.now }
     ensures { Gathers writer.old writer.new result (message_bytes (reply_head head.now reply.now) (reply_fields (method_named head.now.name) reply.now)) }
 {
-    put_reply_of(writer, head, method_named(head.name.as_str()), reply)
+    put_reply_of(alloc, writer, head, method_named(head.name.as_str()), reply)
 }
 
 /// Gathers the reply to the message with this head, as a call with this method declares it, or as
 /// one that nobody knows.
 pub fn put_reply_of(
+    alloc: Global,
     writer: &mut WireWriter,
     head: &Head,
     method: Option<Method>,
@@ -42,7 +56,7 @@ pub fn put_reply_of(
     ensures { Gathers writer.old writer.new result (message_bytes (reply_head head.now reply.now) (reply_fields method reply.now)) }
 {
     writer.reply_head(head, reply_kind(reply))?;
-    put_fields(writer, method, reply)?;
+    put_fields(alloc, writer, method, reply)?;
     writer.stop()
 }
 
@@ -55,13 +69,14 @@ fn reply_kind(reply: &Reply) -> u8
             Some(_) => message_kind::EXCEPTION,
             None => message_kind::REPLY,
         },
-        Reply::Nothing | Reply::Number(_) | Reply::Names(_) | Reply::Db(_, _) =>
-            message_kind::REPLY,
+        Reply::Nothing | Reply::Number(_) | Reply::Big(_) | Reply::Names(_) => message_kind::REPLY,
+        Reply::Db(_, _) | Reply::Events(_) => message_kind::REPLY,
     }
 }
 
 // The fields of a reply.
 fn put_fields(
+    alloc: Global,
     writer: &mut WireWriter,
     method: Option<Method>,
     reply: &Reply,
@@ -76,13 +91,14 @@ fn put_fields(
             general_code(*number),
             declared_id(method, *number),
         ),
-        (Some(method), result) => put_result(writer, method.result_type(), result),
+        (Some(method), result) => put_result(alloc, writer, method.result_type(), result),
         (None, _) => unreachable!(),
     }
 }
 
 // The field of a result.
 fn put_result(
+    alloc: Global,
     writer: &mut WireWriter,
     result_type: ResultType,
     reply: &Reply,
@@ -109,6 +125,8 @@ fn put_result(
             writer.field(type_code::STRUCT, 0)?;
             write_database(writer, name, rec)
         }
+        (ResultType::Events, Reply::Events(events)) => put_events(alloc, writer, events),
+        (ResultType::NewestEvent, Reply::Big(number)) => put_newest(writer, *number),
         _ => unreachable!(),
     }
 }
@@ -123,6 +141,34 @@ fn put_one_text(writer: &mut WireWriter, texts: &Texts) -> Result<(), NoMemory>
     };
     writer.field(type_code::STRING, 0)?;
     writer.text(text)
+}
+
+// Events with their messages, under field 0.
+fn put_events(alloc: Global, writer: &mut WireWriter, events: &Events) -> Result<(), NoMemory>
+    ensures { Gathers writer.old writer.new result (fields_bytes (Field struct_code (pos 0) (Struct (events_fields events.now (map message_text events.now))) NoFields)) }
+{
+    let messages = messages_of(alloc, events.as_slice())?;
+    writer.field(type_code::STRUCT, 0)?;
+    write_notification_event_response(writer, events, &messages)
+}
+
+// The message of each event.
+fn messages_of(alloc: Global, events: &[Event]) -> Result<Texts, NoMemory>
+    ensures { IfOk result (λ messages. messages ≡ map message_text events.now) }
+{
+    let mut messages = ListOf::new(alloc);
+    for event in events {
+        messages.push(message(alloc, event)?)?;
+    }
+    Ok(messages)
+}
+
+// The number of the newest event, under field 0.
+fn put_newest(writer: &mut WireWriter, number: i64) -> Result<(), NoMemory>
+    ensures { Gathers writer.old writer.new result (fields_bytes (Field struct_code (pos 0) (Struct (newest_fields number)) NoFields)) }
+{
+    writer.field(type_code::STRUCT, 0)?;
+    write_current_notification_event_id(writer, number)
 }
 
 // The fields of a refusal, by its code where every call may be answered it, or by the id of its exception.

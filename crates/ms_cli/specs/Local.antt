@@ -70,7 +70,7 @@ Tells end old new = (told : Result (Unit {0}) Outage) × TellsEnd end told old.h
 
 -- the store that the command begins with: a new one, whose id is sixteen zeros and whose events are numbered from 1
 abbrev pub new_store : Start
-new_store = record { state = start (replicate 16 0) 0; fault = 0 }
+new_store = record { state = start (replicate 16 0) 0; fault = 0; past = [] }
 
 -- the words are the command: a session was served at a new store to a caller alone, and its end told; these entries are all that the store went through, and, as it lies in memory, it counted no fault
 pub record Piped (words : List (List ℕ)) (old new : Met) (errors errors' : Errors) (status : ℕ) : Type 0 where

@@ -5,7 +5,7 @@ use Rattle.std.proofs.lemmas.Bool.{false≢true}
 use Rattle.std.specs.List.{AllByRecursion, flat_map}
 use Rattle.std.specs.Map.{keys_of}
 use Rattle.cat_types.specs.declared.calls.Call.{Call}
-use Rattle.cat_types.specs.declared.calls.Call.TheVariants.{CreateDatabase, GetAllDatabases, GetDatabase}
+use Rattle.cat_types.specs.declared.calls.Call.TheVariants.{CreateDatabase, GetAllDatabases, GetCurrentNotificationEventId, GetDatabase, GetNextNotification}
 use Rattle.cat_types.specs.declared.replies.Reply.{Reply}
 use Rattle.cat_types.specs.declared.replies.Reply.TheVariants.{Names}
 use Rattle.cat_types.specs.declared.steps.Answer.{Answer}
@@ -44,6 +44,8 @@ due_leaves : (state : State) (caller : ℕ) (call : Call) (moment : ℕ) → Mak
 due_leaves state caller GetAllDatabases moment none = refl
 due_leaves state caller (GetDatabase name) moment none = found_leaves (is_some (database state.catalogue (lower name))) _ state moment
 due_leaves state caller (CreateDatabase db) moment none = absurd none
+due_leaves state caller (GetNextNotification last max) moment none = refl
+due_leaves state caller GetCurrentNotificationEventId moment none = refl
 
 left_as_it_was : (p : Point) (caller : ℕ) (call : Call) (moment : ℕ) (a : Answer) → MakesNone (ask.Client call) → state_after_answer p.state caller (step.Client call moment) a ≡ p.state
 left_as_it_was p caller call moment answer.NoMemory none = refl
@@ -86,6 +88,8 @@ one_message p (ask.Client GetAllDatabases) entries more before after due reply n
     (instead due reply (Names names) one which, one_call p GetAllDatabases entries more before after due reply new tt legal d)
 one_message p (ask.Client (GetDatabase name)) entries more before after due reply new none legal d which = (tt, one_call p (GetDatabase name) entries more before after due reply new tt legal d)
 one_message p (ask.Client (CreateDatabase db)) entries more before after due reply new none legal d which = absurd none
+one_message p (ask.Client (GetNextNotification last max)) entries more before after due reply new none legal d which = (tt, one_call p (GetNextNotification last max) entries more before after due reply new tt legal d)
+one_message p (ask.Client GetCurrentNotificationEventId) entries more before after due reply new none legal d which = (tt, one_call p GetCurrentNotificationEventId entries more before after due reply new tt legal d)
 one_message p (ask.Plain r) entries more before after due reply new none legal d which = (tt, no_call p entries more new legal d.0)
 one_message p ask.Unknown entries more before after due reply new none legal d which = (tt, no_call p entries more new legal d.0)
 one_message p (ask.BadArgument id) entries more before after due reply new none legal d which = (tt, no_call p entries more new legal d.0)
@@ -100,4 +104,4 @@ all_turns p (t ∷ ts) new each none legal =
 
 pub lists_default : AloneListsDefault
 lists_default id base turns bytes clock clock' files files' entries carried legal none =
-    all_turns (point_of (record { state = start id base; fault = 0 })) turns refl carried.each none (subst (λ (es : List Entry). IsLegal (point_of (record { state = start id base; fault = 0 })) (map took es)) carried.own legal)
+    all_turns (point_of (record { state = start id base; fault = 0; past = [] })) turns refl carried.each none (subst (λ (es : List Entry). IsLegal (point_of (record { state = start id base; fault = 0; past = [] })) (map took es)) carried.own legal)

@@ -3,7 +3,7 @@ use Rattle.std.proofs.Common.{◌≡◌, ℕ, Bool, true, false, List, [], ◌�
 use Rattle.std.proofs.lemmas.Bool.{false≢true}
 use Rattle.std.specs.Prelude.{◌+◌, cond, length, nat_le, nat_lt, not}
 use Rattle.cat_types.specs.declared.calls.Call.{Call}
-use Rattle.cat_types.specs.declared.calls.Call.TheVariants.{CreateDatabase, GetAllDatabases, GetDatabase}
+use Rattle.cat_types.specs.declared.calls.Call.TheVariants.{CreateDatabase, GetAllDatabases, GetCurrentNotificationEventId, GetDatabase, GetNextNotification}
 use Rattle.cat_types.specs.declared.changes.Change.{Change}
 use Rattle.cat_types.specs.declared.replies.Reply.{Reply}
 use Rattle.cat_types.specs.declared.replies.Reply.TheVariants.{Nothing, Refused}
@@ -72,6 +72,8 @@ by_call p caller call moment answer.NoMemory fault m is may = refl
 by_call p caller GetAllDatabases moment answer.StoreFault fault m is may = subst (λ (n : Method). CanReply (Some n) store_fault) (sym is) refl
 by_call p caller (GetDatabase name) moment answer.StoreFault fault m is may = subst (λ (n : Method). CanReply (Some n) store_fault) (sym is) refl
 by_call p caller (CreateDatabase db) moment answer.StoreFault fault m is may = subst (λ (n : Method). CanReply (Some n) store_fault) (sym is) refl
+by_call p caller (GetNextNotification last max) moment answer.StoreFault fault m is may = absurd (false≢true may.0)
+by_call p caller GetCurrentNotificationEventId moment answer.StoreFault fault m is may = absurd (false≢true may.0)
 by_call p caller GetAllDatabases moment (answer.Reply r) fault m is may = subst (λ (n : Method). CanReply (Some n) r) (sym is) (same_can method.GetAllDatabases r _ may refl)
 by_call p caller (GetDatabase name) moment (answer.Reply r) fault m is may =
     subst (λ (n : Method). CanReply (Some n) r) (sym is) (got (database p.state.catalogue (lower name)) (λ held. shown_as held (bars_of p.state).replicas (lower name)) r (λ found. refl) may)
@@ -80,6 +82,8 @@ by_call p caller (CreateDatabase db) moment (answer.Reply r) fault m is may =
     subst (λ (n : Method). CanReply (Some n) r) (sym is)
     (made (not (is_named db.name)) (has_database p.state.catalogue (kept_name db.name)) (nat_le 1000000 (length p.state.catalogue.databases)) (nat_lt 9223372036854775807 next)
     (record { kind = kind.CreateDatabase; db = kept_name db.name; db_born = next; ops = PutDb (kept_record db.rec) ∷ [] }) r may)
+by_call p caller (GetNextNotification last max) moment (answer.Reply r) fault m is may = subst (λ (n : Method). CanReply (Some n) r) (sym is) (same_can method.GetNextNotification r _ may refl)
+by_call p caller GetCurrentNotificationEventId moment (answer.Reply r) fault m is may = subst (λ (n : Method). CanReply (Some n) r) (sym is) (same_can method.GetCurrentNotificationEventId r _ may refl)
 
 can_answer : (p : Point) (caller : ℕ) (call : Call) (moment : ℕ) (a : Answer) (fault : ℕ) (m : Option Method) → CameAs m call → MayAnswer p.state p.fault caller (step.Client call moment) a fault → CanReply m (reply_in a)
 can_answer p caller call moment a fault None came may = absurd came

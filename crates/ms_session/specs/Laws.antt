@@ -2,7 +2,7 @@
 use Rattle.std.specs.Prelude.{◌≡◌, ⊤, ℕ, ◌⊎◌, List, [], ◌∷◌, ◌++◌, codes, map, Option, Some}
 use Rattle.std.specs.List.{AllByRecursion}
 use Rattle.hms_outside.specs.Told.{Goes}
-use Rattle.cat_types.specs.declared.calls.Call.TheVariants.{CreateDatabase, GetAllDatabases, GetDatabase}
+use Rattle.cat_types.specs.declared.calls.Call.TheVariants.{CreateDatabase, GetAllDatabases, GetCurrentNotificationEventId, GetDatabase, GetNextNotification}
 use Rattle.cat_types.specs.declared.replies.Reply.{Reply}
 use Rattle.cat_types.specs.declared.replies.Reply.TheVariants.{Names}
 use Rattle.desk.specs.History.{Entry, Legal}
@@ -51,6 +51,8 @@ abbrev pub MakesNone : Asked → Type 0
 MakesNone (ask.Client (CreateDatabase db)) = ⊥
 MakesNone (ask.Client (GetDatabase name)) = ⊤
 MakesNone (ask.Client GetAllDatabases) = ⊤
+MakesNone (ask.Client (GetNextNotification last max)) = ⊤
+MakesNone (ask.Client GetCurrentNotificationEventId) = ⊤
 MakesNone (ask.Plain reply) = ⊤
 MakesNone ask.Unknown = ⊤
 MakesNone (ask.BadArgument id) = ⊤
@@ -61,6 +63,8 @@ abbrev pub Lists : List (List ℕ) → Asked → Reply → Type 0
 Lists names (ask.Client GetAllDatabases) reply = (reply ≡ Names names) ⊎ (reply ≡ out_of_memory)
 Lists names (ask.Client (GetDatabase name)) reply = ⊤
 Lists names (ask.Client (CreateDatabase db)) reply = ⊤
+Lists names (ask.Client (GetNextNotification last max)) reply = ⊤
+Lists names (ask.Client GetCurrentNotificationEventId) reply = ⊤
 Lists names (ask.Plain answer) reply = ⊤
 Lists names ask.Unknown reply = ⊤
 Lists names (ask.BadArgument id) reply = ⊤
@@ -69,5 +73,5 @@ Lists names ask.Shutdown reply = ⊤
 -- where the messages of one caller are all that a new store went through, and none asks for a new database, each listing names `default` alone
 abbrev pub AloneListsDefault : Type 0
 AloneListsDefault = (id : List ℕ) (base : ℕ) (turns : List Turn) (bytes : List ℕ) (clock clock' : Option (List ℕ)) (files files' : Option Files) (entries : List Entry)
-    → Carried turns bytes clock clock' files files' entries → Legal (record { state = start id base; fault = 0 }) entries → AllByRecursion (λ turn. MakesNone (asks turn.message)) turns
+    → Carried turns bytes clock clock' files files' entries → Legal (record { state = start id base; fault = 0; past = [] }) entries → AllByRecursion (λ turn. MakesNone (asks turn.message)) turns
     → AllByRecursion (λ turn. Lists (codes "default" ∷ []) (asks turn.message) turn.reply) turns

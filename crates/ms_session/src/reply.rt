@@ -27,7 +27,7 @@ pub fn gather_reply(
     ensures { OnOk result (MatchResult due (λ reply. (writer.new ≡ reply_bytes head.now reply) ⊎ (writer.new ≡ reply_bytes head.now out_of_memory)) (λ _. writer.new ≡ reply_bytes head.now out_of_memory)) }
 {
     if let Ok(reply) = due {
-        match put_reply_of(writer, head, method, &reply) {
+        match put_reply_of(alloc, writer, head, method, &reply) {
             Ok(()) => return Ok(()),
             Err(NoMemory) => writer.clear(),
         }
@@ -48,5 +48,5 @@ fn gather_refusal(
     ensures { OnOk result (writer.new ≡ reply_bytes head.now out_of_memory) }
 {
     let refusal = out_of_memory(alloc)?;
-    put_reply_of(writer, head, method, &refusal)
+    put_reply_of(alloc, writer, head, method, &refusal)
 }

@@ -8,8 +8,9 @@ use Rattle.cat_types.specs.declared.changes.Op.{Op}
 use Rattle.cat_types.specs.declared.changes.Op.TheVariants.{PutDb, DropDb, PutTable, DropTable as DropTableOp, MoveTable, PutPart, DropPart, MovePart}
 use Rattle.ms_structs.specs.declared.notification_request.NotificationRequest.{NotificationRequest}
 use Rattle.ms_structs.specs.declared.notification_request.NotificationRequestFields.{NotificationRequestFields}
+use Rattle.ms_structs.specs.declared.got.Got.{Got}
 use Rattle.ms_structs.specs.declared.got.Got.TheVariants.{Nothing}
-use Rattle.ms_structs.specs.Slots.{for_said, given_or, made_of, optional_of, slot}
+use Rattle.ms_structs.specs.Slots.{for_said, given_or, made_of, optional_of, slot, struct_of}
 use Rattle.ms_structs.specs.Values.{number_of}
 use Rattle.ms_structs.specs.Written.{optional_text}
 use Rattle.thrift_binary.specs.Building.{elements_of, followed}
@@ -34,6 +35,9 @@ request_whole f =
 -- the request that these fields make
 abbrev pub request_made : Fields → Option NotificationRequest
 request_made = made_of request_whole request_set request_none
+
+abbrev pub request_of : Wire → Got NotificationRequest
+request_of = struct_of request_whole request_set request_none
 
 -- ---- an event
 

@@ -3,12 +3,15 @@
 ghost use Rattle.std.specs.Prelude.{◌≡◌, ℕ, ℤ, ◌≤◌, None, IsErrOf};
 ghost use Rattle.hms_outside.specs.Causes.{Rose, StaysBut};
 ghost use Rattle.ms_structs.specs.Getting.{Makes};
-ghost use Rattle.ms_structs.specs.Notifications.{request_made, request_none, request_set, request_whole};
+ghost use Rattle.ms_structs.specs.Notifications.{request_made, request_none, request_of, request_set, request_whole};
+ghost use Rattle.thrift_binary.specs.Codes.{struct_code};
 
-use crate::{FieldSink, Got, StructFault, StructSink, read_whole, skip_field};
+use crate::{
+    FieldSink, FromWire, Got, StructFault, StructSink, read_struct, read_whole, skip_field,
+};
 use hms_outside::Source;
 use std::alloc::Global;
-use thrift_binary::{WireFault, WireReader};
+use thrift_binary::{WireFault, WireReader, type_code};
 
 /// What a NotificationEventRequest asks for: the events above the number `last`, `max` of them at
 /// most; all where `max` is absent, 0 or negative.
@@ -61,6 +64,21 @@ impl StructSink for NotificationRequestFields {
         let last = self.last.or(0)?;
         let max = self.max.optional()?;
         Some(NotificationRequest { last, max })
+    }
+}
+
+impl FromWire for NotificationRequest {
+    ghost CODE = { struct_code };
+
+    const CODE: u8 = type_code::STRUCT;
+
+    ghost means = { request_of };
+
+    fn read<S: Source>(
+        alloc: Global,
+        reader: &mut WireReader<'_, S>,
+    ) -> Result<Got<NotificationRequest>, WireFault> {
+        read_struct::<NotificationRequestFields, S>(alloc, reader)
     }
 }
 

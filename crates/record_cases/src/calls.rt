@@ -16,6 +16,8 @@ impl Worded for Call {
                 name: Text::of(alloc, rest)?,
             }),
             "create_database" => create(alloc, rest),
+            "get_next_notification" => next_notification(rest),
+            "get_current_notificationEventId" => Ok(Call::GetCurrentNotificationEventId),
             _ => Err(Unable::Form),
         }
     }
@@ -32,6 +34,13 @@ impl Worded for Call {
                 let owner = word_of(&db.rec.owner);
                 Ok(format!(in alloc; "create_database {name} {owner}")?)
             }
+            Call::GetNextNotification { last, max: Some(max) } => {
+                Ok(format!(in alloc; "get_next_notification {last} {max}")?)
+            }
+            Call::GetNextNotification { last, max: None } => {
+                Ok(format!(in alloc; "get_next_notification {last} -")?)
+            }
+            Call::GetCurrentNotificationEventId => said(alloc, "get_current_notificationEventId"),
         }
     }
 }
@@ -43,6 +52,20 @@ fn create(alloc: Global, words: &str) -> Result<Call, Unable> {
     let rec = owned_by(alloc, owner)?;
     Ok(Call::CreateDatabase {
         db: DbArg { name, rec },
+    })
+}
+
+// A poll, by its number and how many events it asks for.
+fn next_notification(words: &str) -> Result<Call, Unable> {
+    let (last, max) = words_of(words);
+    let last = last.parse::<i64>().or(Err(Unable::Form))?;
+    if max == "-" {
+        return Ok(Call::GetNextNotification { last, max: None });
+    }
+    let max = max.parse::<i32>().or(Err(Unable::Form))?;
+    Ok(Call::GetNextNotification {
+        last,
+        max: Some(max),
     })
 }
 

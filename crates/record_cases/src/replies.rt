@@ -3,9 +3,10 @@
 use crate::outcome::{said, words_of};
 use crate::texts::{joined, texts_of};
 use crate::worded::{Worded, owned_by, word_of};
-use cat_types::{Answer, Reply, Text};
+use cat_types::{Answer, Bytes, Reply, Text};
+use change_codec::{get_events, put_events};
 use std::alloc::Global;
-use table_cases::Unable;
+use table_cases::{Unable, bytes_of, digits_of};
 
 impl Worded for Reply {
     fn of(alloc: Global, words: &str) -> Result<Reply, Unable> {
@@ -13,8 +14,10 @@ impl Worded for Reply {
         match reply {
             "nothing" => Ok(Reply::Nothing),
             "number" => Ok(Reply::Number(rest.parse::<i32>().or(Err(Unable::Form))?)),
+            "big" => Ok(Reply::Big(rest.parse::<i64>().or(Err(Unable::Form))?)),
             "names" => Ok(Reply::Names(texts_of(alloc, rest)?)),
             "db" => db_of(alloc, rest),
+            "events" => events_of(alloc, rest),
             "refused" => refused_of(alloc, rest),
             _ => Err(Unable::Form),
         }
@@ -24,6 +27,7 @@ impl Worded for Reply {
         match self {
             Reply::Nothing => said(alloc, "nothing"),
             Reply::Number(number) => Ok(format!(in alloc; "number {number}")?),
+            Reply::Big(number) => Ok(format!(in alloc; "big {number}")?),
             Reply::Names(names) => {
                 let names = joined(alloc, names)?;
                 Ok(format!(in alloc; "names {names}")?)
@@ -32,6 +36,12 @@ impl Worded for Reply {
                 let name = name.as_str();
                 let owner = word_of(&rec.owner);
                 Ok(format!(in alloc; "db {name} {owner}")?)
+            }
+            Reply::Events(events) => {
+                let mut bytes = Bytes::new(alloc);
+                put_events(events, &mut bytes)?;
+                let digits = digits_of(alloc, bytes.as_slice())?;
+                Ok(format!(in alloc; "events {digits}")?)
             }
             Reply::Refused(number, text) => {
                 let text = text.as_str();
@@ -47,6 +57,15 @@ fn db_of(alloc: Global, words: &str) -> Result<Reply, Unable> {
     let name = Text::of(alloc, name)?;
     let rec = owned_by(alloc, owner)?;
     Ok(Reply::Db(name, rec))
+}
+
+// Events, by the digits of their bytes.
+fn events_of(alloc: Global, digits: &str) -> Result<Reply, Unable> {
+    let bytes = bytes_of(alloc, digits)?;
+    match get_events(alloc, &bytes) {
+        Ok(events) => Ok(Reply::Events(events)),
+        Err(_) => Err(Unable::Form),
+    }
 }
 
 // A refusal, by its number and text.

@@ -1,6 +1,9 @@
 //! What no session shows of a catalogue: a live replica's position, a change that is taken back, and
 //! the refusals that no call gives yet.
 
+ghost use Rattle.std.specs.Prelude.{◌≡◌, None};
+ghost use Rattle.catalogue.specs.Polls.{poll_of};
+
 use crate::stores::create;
 use cat_types::{Call, ListOf, Params, Reply, Text};
 use catalogue::{Bars, Cat, Decided, Placed, Refusal, ReplicaAt, decide};
@@ -52,7 +55,9 @@ fn a_live_replica_shows_its_position(rt: HostRuntime) -> Result<(), Fail> {
 }
 
 // Places what a call changes, if it changes anything.
-fn place(alloc: Global, cat: &mut Cat, call: &Call) -> Option<Placed> {
+fn place(alloc: Global, cat: &mut Cat, call: &Call) -> Option<Placed>
+    requires { poll_of call.now ≡ None }
+{
     match decide(alloc, cat, &no_bars(alloc), call, 5, 1) {
         Decided::Change(change, _) => cat.place(&change).ok(),
         _ => None,

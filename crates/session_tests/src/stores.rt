@@ -1,5 +1,8 @@
 //! The end of event numbers, and stores that are given back.
 
+ghost use Rattle.std.specs.Prelude.{◌≡◌, IfOk, None};
+ghost use Rattle.catalogue.specs.Polls.{poll_of};
+
 use cat_types::{Answer, Call, DbArg, DbRec, MapOf, Reply, Step, Text};
 use desk::{Core, Desk, LocalDesk, MemCore, ScriptDesk};
 use std::alloc::Global;
@@ -12,7 +15,9 @@ const ID: [u8; 16] = [7; 16];
 const LAST: u64 = 9_223_372_036_854_775_807;
 
 /// The call that creates a database with this name.
-pub(crate) fn create(alloc: Global, name: &str) -> Result<Call, Fail> {
+pub(crate) fn create(alloc: Global, name: &str) -> Result<Call, Fail>
+    ensures { IfOk result (λ call. poll_of call ≡ None) }
+{
     let name = Some(Text::of(alloc, name)?);
     let rec = DbRec {
         description: None,
@@ -88,6 +93,43 @@ fn the_last_event_numbers_are_given(rt: HostRuntime) -> Result<(), Fail> {
     );
     let listed = names(alloc, &core.turn(0, list()))?;
     assert_eq!(rt; listed.as_str(), "_9,a,b,default,zz,");
+    Ok(())
+}
+
+// The numbers of the events that a poll is answered, or 0 where it is answered otherwise.
+fn polled(alloc: Global, core: &mut MemCore, last: i64) -> Result<Vec<u64>, Fail> {
+    let call = Call::GetNextNotification { last, max: None };
+    let mut numbers = Vec::new(alloc);
+    match core.turn(0, step(call)) {
+        Answer::Reply(Reply::Events(events)) => {
+            for event in events.as_slice() {
+                numbers.push(event.id)?;
+            }
+        }
+        _ => numbers.push(0)?,
+    }
+    Ok(numbers)
+}
+
+#[test]
+fn the_last_events_are_polled(rt: HostRuntime) -> Result<(), Fail> {
+    let alloc = rt.alloc();
+    let mut core = MemCore::new(alloc, ID, LAST - 2)?;
+    let _ = refusals(alloc, &mut core, "a\nb\nc")?;
+    let all = polled(alloc, &mut core, -1)?;
+    assert_eq!(rt; all.as_slice(), [LAST - 1, LAST].as_slice());
+    let last = polled(alloc, &mut core, 9_223_372_036_854_775_806)?;
+    assert_eq!(rt; last.as_slice(), [LAST].as_slice());
+    let none = polled(alloc, &mut core, 9_223_372_036_854_775_807)?;
+    assert!(rt; none.is_empty());
+    Ok(())
+}
+
+#[test]
+fn the_last_number_is_told(rt: HostRuntime) -> Result<(), Fail> {
+    let mut core = MemCore::new(rt.alloc(), ID, LAST)?;
+    let answer = core.turn(0, step(Call::GetCurrentNotificationEventId));
+    assert!(rt; matches!(answer, Answer::Reply(Reply::Big(9_223_372_036_854_775_807))));
     Ok(())
 }
 

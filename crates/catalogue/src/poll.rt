@@ -1,0 +1,32 @@
+//! The calls by which a follower polls.
+
+ghost use Rattle.std.specs.Prelude.{◌≡◌};
+ghost use Rattle.catalogue.specs.Polls.{poll_of};
+
+use cat_types::Call;
+
+/// What a follower polls for.
+#[derive(Drop)]
+pub enum Poll {
+    /// The kept events above the number `last`, `max` of them at most; all where `max` is absent, 0
+    /// or negative.
+    After { last: i64, max: Option<i32> },
+    /// The number of the newest event.
+    Newest,
+}
+
+/// The poll that a call is, where it is one.
+pub fn poll_of(call: &Call) -> Option<Poll>
+    ensures { result ≡ poll_of call.now }
+{
+    match call {
+        Call::GetAllDatabases => None,
+        Call::GetDatabase { name: _ } => None,
+        Call::CreateDatabase { db: _ } => None,
+        Call::GetNextNotification { last, max } => Some(Poll::After {
+            last: *last,
+            max: *max,
+        }),
+        Call::GetCurrentNotificationEventId => Some(Poll::Newest),
+    }
+}

@@ -1,0 +1,26 @@
+-- Polls write nothing; which events are above a number below 0.
+use Rattle.std.proofs.Common.{◌≡◌, refl, sym, ap, ◌∙◌, ℕ, ◌<◌, ℤ, pos, negsuc, ◌<ℤ◌, List, [], ◌∷◌, arith}
+use Rattle.std.proofs.lemmas.Int.{ints}
+use Rattle.cat_types.specs.declared.calls.Call.TheVariants.{CreateDatabase, GetAllDatabases, GetCurrentNotificationEventId, GetDatabase, GetNextNotification}
+use Rattle.cat_types.specs.declared.changes.Event.{Event}
+use Rattle.desk.specs.Laws.{PollsWriteNothing}
+use Rattle.desk.specs.Polls.{events_beyond}
+use Rattle.notify_log.specs.Logs.{AreNumbered, events_above}
+use Rattle.notify_log.proofs.Numbers.{all_above}
+
+pub write_nothing : PollsWriteNothing
+write_nothing s GetAllDatabases moment is = absurd cc
+write_nothing s (GetDatabase name) moment is = absurd cc
+write_nothing s (CreateDatabase db) moment is = absurd cc
+write_nothing s (GetNextNotification last max) moment is = refl
+write_nothing s GetCurrentNotificationEventId moment is = refl
+
+-- every event is above a number below 0
+all_beyond : (last : ℤ) (es : List Event) → last <ℤ pos 0 → events_beyond last es ≡ es
+all_beyond (pos n) es below = absurd (omega (arith, ints, below))
+all_beyond (negsuc n) [] below = refl
+all_beyond (negsuc n) (e ∷ es) below = ap (λ rest. e ∷ rest) (all_beyond (negsuc n) es below)
+
+-- so are those above the number before the first
+pub beyond_none : (last : ℤ) (before first : ℕ) (es : List Event) → last <ℤ pos 0 → AreNumbered first es → before < first → events_above before es ≡ events_beyond last es
+beyond_none last before first es below numbered above = all_above first before es numbered above ∙ sym (all_beyond last es below)
