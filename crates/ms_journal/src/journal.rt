@@ -2,10 +2,10 @@
 
 ghost use Rattle.std.specs.Prelude.{◌≡◌, ◌⊎◌, ◌<◌, ◌≤◌, ◌++◌, ◌∷◌, [], None, Some, ℕ, ◌^◌, length, take, drop, is_some, IsSome, IfOk, OnOk, OnErr, IsErrOf, IfErr, IfSome, MatchResult};
 ghost use Rattle.hms_outside.specs.Causes.{Rose};
-ghost use Rattle.hms_outside.specs.Disks.{Went};
+ghost use Rattle.hms_outside.specs.Disks.{Lay, Went};
 ghost use Rattle.ms_journal.specs.Files.{IsBroken, IsFile, IsForeign, block, base_in, head_of, placed};
 ghost use Rattle.ms_journal.specs.Faults.{IsMakingFault, IsOpeningFault};
-ghost use Rattle.ms_journal.specs.Found.{AsFound, LeavesAsFound};
+ghost use Rattle.ms_journal.specs.Found.{AsFound, HeldStays, LeavesAsFound};
 ghost use Rattle.ms_journal.specs.Parsed.{pairs_of};
 ghost use Rattle.ms_journal.specs.Books.{LeavesOpen, OpensTo};
 
@@ -119,6 +119,8 @@ impl<D: Disk> Journal<D> {
     pub fn into_disk(self) -> D
         ensures disk { result ≡ self.disk }
         ensures opens { IfSome (D.lies result) (LeavesOpen self.head self.payloads self.doubt) }
+        // So does what a read of it gives.
+        ensures held { IfSome (D.lies result) (λ d. OpensTo self.head self.payloads self.doubt d.held) }
     {
         let Journal { disk, .. } = self;
         disk
@@ -167,6 +169,7 @@ impl<D: Disk> Journal<D> {
         ensures went { MatchResult result
             (λ r. Went (D.past disk) (D.past r.0.disk) (D.lies r.0.disk) (LeavesAsFound (D.lies disk)) (AsFound (D.lies disk)))
             (λ e. Went (D.past disk) (D.past e.1) (D.lies e.1) (LeavesAsFound (D.lies disk)) (AsFound (D.lies disk))) }
+        ensures held { MatchResult result (λ r. Lay HeldStays (D.lies disk) (D.lies r.0.disk)) (λ e. Lay HeldStays (D.lies disk) (D.lies e.1)) }
         ensures kind { IfErr result (λ e. IsOpeningFault e.0) }
         ensures foreign { IfErr result (λ e. e.0 ≡ OpenFault.Foreign → IfSome (D.lies disk) (λ d. IsForeign d.held)) }
         ensures broken { IfErr result (λ e. (at : ℕ) → e.0 ≡ OpenFault.Broken at → IfSome (D.lies disk) (λ d. IsBroken at d.held)) }
@@ -205,7 +208,8 @@ impl<D: Disk> Journal<D> {
 
     /// The store's base event number.
     pub fn base(&self) -> u64
-        ensures { result ≡ base_in self.now.head }
+        ensures value { result ≡ base_in self.now.head }
+        ensures bound { result < 2 ^ 63 }
     {
         base_of(&self.head)
     }

@@ -4,7 +4,7 @@ ghost use Rattle.std.specs.Prelude.{◌≡◌, true, ◌<◌, ◌≤◌, ◌^◌
 ghost use Rattle.hms_outside.specs.Causes.{Rose};
 ghost use Rattle.hms_outside.specs.Disks.{HasSynced, Lay, Went};
 ghost use Rattle.ms_journal.specs.Faults.{IsOpeningFault, IsOutage, RefusesOpening};
-ghost use Rattle.ms_journal.specs.Found.{AsFound, LeavesAsFound};
+ghost use Rattle.ms_journal.specs.Found.{AsFound, HeldStays, LeavesAsFound};
 ghost use Rattle.ms_journal.specs.Parsed.{IsRead, ReadsOn};
 
 use crate::OpenFault;
@@ -62,10 +62,12 @@ fn read_all<D: Disk>(alloc: Global, disk: &mut D) -> Result<Vec<u8>, OpenFault>
 }
 
 /// Syncs the disk and reads the journal that it holds.
+#[tactic(auto, using(crate::proofs::Finding::found_held))]
 pub fn read_log<D: Disk>(alloc: Global, disk: &mut D) -> Result<Parsed, OpenFault>
     ensures read { IfOk result (λ p. (c : List ℕ) × IsRead c p.head p.payloads p.log.items p.end × (length c < 2 ^ 64)
         × IfSome (D.lies disk.old) (λ d. c ≡ d.held)) }
     ensures synced { OnOk result (Lay HasSynced (D.lies disk.old) (D.lies disk.new)) }
+    ensures held { Lay HeldStays (D.lies disk.old) (D.lies disk.new) }
     ensures kind { IfErr result IsOpeningFault }
     ensures refused { IfErr result (λ fault. IfSome (D.lies disk.old) (λ d. RefusesOpening fault d.held)) }
     ensures went { Went (D.past disk.old) (D.past disk.new) (D.lies disk.new) (LeavesAsFound (D.lies disk.old)) (AsFound (D.lies disk.old)) }

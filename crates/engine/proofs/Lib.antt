@@ -1,0 +1,10 @@
+pub mod Tests
+pub mod Spelling
+pub mod Commits
+pub mod Taking
+pub mod Stepping
+pub mod Payloads
+pub mod Standing
+pub mod Running
+pub mod Openings
+pub mod OneStore

@@ -1,0 +1,5 @@
+pub mod Opening
+pub mod Keeping
+pub mod Stores
+pub mod Inside
+pub mod Laws

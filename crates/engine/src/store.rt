@@ -1,0 +1,267 @@
+//! What a store keeps in memory.
+
+ghost use Rattle.std.specs.Prelude.{◌≡◌, ◌<◌, ◌≤◌, ◌+◌, ◌++◌, ◌∷◌, [], true, Ok, IfOk, MatchResult, None, OnErr, OnOk, Some};
+ghost use Rattle.cat_types.specs.declared.steps.Step.TheVariants.{Client};
+ghost use Rattle.catalogue.specs.Changes.{creates, is_creation, is_one_put_db, takes_change};
+ghost use Rattle.catalogue.specs.Polls.{poll_of};
+ghost use Rattle.desk.specs.State.{kept, next_event, start, with_written};
+ghost use Rattle.engine.specs.Inside.{IsSure, Logged, Stepped, refused_by, seen_by};
+ghost use Rattle.engine.specs.Opening.{RefusesReplay, taken, takes, written_in};
+ghost use Rattle.notify_log.specs.Logs.{next_number};
+
+use crate::committing::{commit, spell};
+use cat_rules::object_name;
+use cat_types::{Answer, Call, Change, Event, EventKind, ListOf, NoMemory, Op, Ops, Step};
+use catalogue::{Bars, Cat, Decided, LAST_EVENT, decide, poll_of};
+use change_codec::Entry;
+use desk::reply_to_poll;
+use hms_outside::Disk;
+use ms_journal::{Journal, OpenFault, StoreFault};
+use notify_log::EventLog;
+use std::alloc::Global;
+use std::marker::Model;
+
+/// A store's state in memory.
+#[derive(Drop)]
+pub struct Store {
+    alloc: Global,
+    id: [u8; 16],
+    cat: Cat,
+    log: EventLog,
+    newest: u64,
+    last_dump: u64,
+}
+
+impl Model for Store {
+    ghost use Rattle.std.specs.Prelude.{◌≡◌, ◌≤◌, ◌+◌};
+    ghost use Rattle.desk.specs.State.{State};
+    ghost use Rattle.notify_log.specs.Logs.{next_number};
+
+    ghost Value = { State };
+
+    ghost view = { λ m. record { id = m.id; catalogue = m.cat; events = m.log.events; first = m.log.first; newest = m.newest; last_dump = m.last_dump } };
+
+    ghost invariant = { λ m. (m.newest ≤ 9223372036854775807) × (next_number m.log ≡ m.newest + 1) × (1 ≤ m.log.first) };
+}
+
+impl Store {
+    /// A new store, whose events are numbered from base + 1.
+    pub fn new(alloc: Global, id: [u8; 16], base: u64) -> Result<Store, NoMemory>
+        requires { base ≤ 9223372036854775807 }
+        ensures { IfOk result (λ store. store ≡ start id base) }
+    {
+        Ok(Store {
+            alloc,
+            id,
+            cat: Cat::new(alloc)?,
+            log: EventLog::new(alloc, base + 1),
+            newest: base,
+            last_dump: 0,
+        })
+    }
+
+    /// Takes a step, in memory and in the journal.
+    pub fn take_step<D: Disk>(
+        &mut self,
+        journal: &mut Journal<D>,
+        caller: u32,
+        step: &Step,
+    ) -> Answer
+        requires { IsSure (seen_by D.lies D.past D.faults journal.old) }
+        ensures { Stepped self.old caller step.now result self.new (seen_by D.lies D.past D.faults journal.old) (seen_by D.lies D.past D.faults journal.new) }
+    {
+        match step {
+            Step::Client { call, moment } => self.take_call(journal, caller, call, *moment),
+        }
+    }
+
+    // Takes a call: a poll, or one that the catalogue decides.
+    fn take_call<D: Disk>(
+        &mut self,
+        journal: &mut Journal<D>,
+        caller: u32,
+        call: &Call,
+        moment: u64,
+    ) -> Answer
+        requires { IsSure (seen_by D.lies D.past D.faults journal.old) }
+        ensures { Stepped self.old caller (Client call.now moment) result self.new (seen_by D.lies D.past D.faults journal.old) (seen_by D.lies D.past D.faults journal.new) }
+    {
+        match poll_of(call) {
+            Some(poll) => match reply_to_poll(&self.log, self.newest, &poll) {
+                Ok(reply) => Answer::Reply(reply),
+                Err(NoMemory) => Answer::NoMemory,
+            },
+            None => self.decide_call(journal, caller, call, moment),
+        }
+    }
+
+    // Decides a call that is no poll, and does what it changes.
+    fn decide_call<D: Disk>(
+        &mut self,
+        journal: &mut Journal<D>,
+        _caller: u32,
+        call: &Call,
+        moment: u64,
+    ) -> Answer
+        requires poll { poll_of call.now ≡ None }
+        requires sure { IsSure (seen_by D.lies D.past D.faults journal.old) }
+        ensures { Stepped self.old _caller (Client call.now moment) result self.new (seen_by D.lies D.past D.faults journal.old) (seen_by D.lies D.past D.faults journal.new) }
+    {
+        let bars = Bars {
+            replicas: ListOf::new(self.alloc),
+            dumping: ListOf::new(self.alloc),
+            loading: ListOf::new(self.alloc),
+        };
+        match decide(self.alloc, &self.cat, &bars, call, moment, self.newest + 1) {
+            Decided::Reply(reply) => Answer::Reply(reply),
+            Decided::Change(change, reply) => match self.accept(journal, change, moment) {
+                Ok(()) => Answer::Reply(reply),
+                Err(fault) => refusal(fault),
+            },
+            Decided::NoMemory => Answer::NoMemory,
+        }
+    }
+
+    // Does a change and keeps its event, in memory and in the journal. All memory is taken before the
+    // journal is touched, so that behind its answer nothing can fail.
+    fn accept<D: Disk>(
+        &mut self,
+        journal: &mut Journal<D>,
+        change: Change,
+        moment: u64,
+    ) -> Result<(), StoreFault>
+        requires sure { IsSure (seen_by D.lies D.past D.faults journal.old) }
+        requires takes { takes_change self.old.catalogue (self.old.newest + 1) change ≡ true }
+        ensures ok { OnOk result (self.new ≡ with_written (Some (kept (next_event self.old moment change))) self.old) }
+        ensures err { OnErr result (self.new ≡ self.old) }
+        ensures log { Logged (kept (next_event self.old moment change)) result (seen_by D.lies D.past D.faults journal.old) (seen_by D.lies D.past D.faults journal.new) }
+    {
+        let id = self.newest + 1;
+        let (payload, event) = spell(self.alloc, Event { id, moment, change })?;
+        self.log.reserve()?;
+        let placed = self.cat.place(&event.change)?;
+        match commit(journal, &payload) {
+            Ok(()) => {
+                self.cat.settle(placed);
+                self.newest = event.id;
+                keep(&mut self.log, event);
+                Ok(())
+            }
+            Err(fault) => {
+                self.cat.take_back(placed);
+                Err(fault)
+            }
+        }
+    }
+
+    /// Takes an entry of a journal, whose gate stands at this place. So far there are none but events.
+    pub fn take(&mut self, entry: Entry, at: u64) -> Result<(), OpenFault>
+        ensures { MatchResult result (λ _. taken at (written_in entry) self.old ≡ Ok self.new) (λ fault. RefusesReplay fault (taken at (written_in entry) self.old)) }
+    {
+        match entry {
+            Entry::Event(event) => self.take_event(event, at),
+            Entry::DumpBegun(_) => Err(OpenFault::Broken(at)),
+            Entry::Trimmed(_) => Err(OpenFault::Broken(at)),
+            Entry::LoadStep { .. } => Err(OpenFault::Broken(at)),
+        }
+    }
+
+    // Takes an event of a journal.
+    fn take_event(&mut self, event: Event, at: u64) -> Result<(), OpenFault>
+        ensures { MatchResult result (λ _. taken at (Some (kept event)) self.old ≡ Ok self.new) (λ fault. RefusesReplay fault (taken at (Some (kept event)) self.old)) }
+    {
+        if !self.takes_event(&event) {
+            return Err(OpenFault::Broken(at));
+        }
+        self.redo(event)?;
+        Ok(())
+    }
+
+    // Whether the state takes an event.
+    fn takes_event(&self, event: &Event) -> bool
+        ensures { result ≡ takes self.now (kept event.now) }
+    {
+        event.id == self.newest + 1 && self.takes_change(event.id, &event.change)
+    }
+
+    // Whether the catalogue can take a change as the event with this number.
+    fn takes_change(&self, id: u64, change: &Change) -> bool
+        ensures { result ≡ takes_change self.now.catalogue id change.now }
+    {
+        id <= LAST_EVENT && change.db_born == id && self.creates(change)
+    }
+
+    // Whether a change makes a database with a lawful name, which isn't there yet.
+    fn creates(&self, change: &Change) -> bool
+        ensures { result ≡ creates self.now.catalogue change.now }
+    {
+        is_creation(change.kind)
+            && is_one_put_db(&change.ops)
+            && object_name(&change.db)
+            && !self.cat.has_database(&change.db)
+    }
+
+    // Does an event again.
+    fn redo(&mut self, event: Event) -> Result<(), NoMemory>
+        requires { takes self.old (kept event) ≡ true }
+        ensures { OnOk result (self.new ≡ with_written (Some (kept event)) self.old) }
+    {
+        self.log.reserve()?;
+        let placed = self.cat.place(&event.change)?;
+        self.cat.settle(placed);
+        self.newest = event.id;
+        keep(&mut self.log, event);
+        Ok(())
+    }
+}
+
+// Keeps an event, for which there is room. It takes no memory.
+fn keep(log: &mut EventLog, event: Event)
+    requires next { event.id ≡ next_number log.old }
+    requires numbers_left { event.id < 18446744073709551615 }
+    requires room { 0 < log.old.spare }
+    ensures first { log.new.first ≡ log.old.first }
+    ensures events { log.new.events ≡ log.old.events ++ event ∷ [] }
+{
+    match log.push(event) {
+        Ok(()) => {}
+        Err(_) => unreachable!(),
+    }
+}
+
+// Whether events of this kind make a database.
+fn is_creation(kind: EventKind) -> bool
+    ensures { result ≡ is_creation kind }
+{
+    match kind {
+        EventKind::CreateDatabase => true,
+        EventKind::AlterDatabase
+        | EventKind::DropDatabase
+        | EventKind::CreateTable
+        | EventKind::AlterTable
+        | EventKind::DropTable
+        | EventKind::AddPartition
+        | EventKind::AlterPartition
+        | EventKind::DropPartition => false,
+    }
+}
+
+// Whether the one operation gives a database a record.
+fn is_one_put_db(ops: &Ops) -> bool
+    ensures { result ≡ is_one_put_db ops.now }
+{
+    match ops.as_slice() {
+        [Op::PutDb { .. }] => true,
+        _ => false,
+    }
+}
+
+// The answer to a step whose entry isn't written.
+fn refusal(fault: StoreFault) -> Answer
+    ensures { result ≡ refused_by fault }
+{
+    match fault {
+        StoreFault::DiskFault => Answer::StoreFault,
+        StoreFault::NoMemory => Answer::NoMemory,
+    }
+}
