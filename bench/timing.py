@@ -1,7 +1,10 @@
 """What the scripts of bench/ share: running the built programs, and taking their times."""
 
 import os, resource, subprocess, sys, tempfile, time
+from contextlib import contextmanager
 from dataclasses import dataclass
+
+from messages import make_store
 
 TOP = os.path.dirname(os.path.dirname(os.path.abspath(__file__)))
 
@@ -65,9 +68,11 @@ def rate(count, *words):
     return best / 1e6, runs[0][0].numbers[0] // count
 
 
-def server():
-    """The command that answers messages."""
-    return [built("metastore", "./demo"), "store", "dumps", "pipe"]
+@contextmanager
+def new_store(place=None):
+    """The command that serves a new store, in a folder of its own that goes afterwards."""
+    with tempfile.TemporaryDirectory(dir=place) as folder:
+        yield make_store(built("metastore", "./demo"), folder)
 
 
 def peak_of(child):
@@ -79,15 +84,21 @@ def peak_of(child):
         return 0
 
 
-def served(messages):
+def served(command, messages):
     """Pipes messages through the metastore: its status, the size of its replies, seconds, peak memory in KiB."""
     with tempfile.TemporaryFile() as given, tempfile.TemporaryFile() as replies:
         given.writelines(messages)
         given.flush()
         given.seek(0)
         start, peak = time.monotonic(), 0
-        child = subprocess.Popen(server(), stdin=given, stdout=replies, stderr=subprocess.DEVNULL)
+        child = subprocess.Popen(command, stdin=given, stdout=replies, stderr=subprocess.DEVNULL)
         while child.poll() is None:
             peak = max(peak, peak_of(child))
             time.sleep(0.0005)
         return child.returncode, replies.seek(0, 2), time.monotonic() - start, peak
+
+
+def served_anew(messages):
+    """The same at a new store."""
+    with new_store() as command:
+        return served(command, messages)

@@ -1,7 +1,7 @@
 //! The metastore's program: `metastore STORE DUMPS COMMAND ..`.
 #![tactic(auto)]
 
-use hms_outside::{MemDisk, MemFolder, StreamSink, StreamSource, SystemClock};
+use hms_outside::{FileDisk, MemFolder, StreamSink, StreamSource, SystemClock};
 use ms_cli::{LocalEnd, run_local};
 use std::alloc::{AllocError, Global};
 use std::env;
@@ -17,6 +17,12 @@ fn main(rt: HostRuntime) -> ExitCode {
         return ExitCode::from(10);
     };
     let alloc = rt.alloc();
+    let (Ok(path_a), Ok(path_b)) = (
+        path_of(alloc, &words, "store.a"),
+        path_of(alloc, &words, "store.b"),
+    ) else {
+        return ExitCode::from(10);
+    };
     let mut input = StreamSource::new(alloc, rt.stdin());
     let mut output = StreamSink::new(alloc, rt.stdout());
     let mut errors = StreamSink::new(alloc, rt.stderr());
@@ -32,8 +38,8 @@ fn main(rt: HostRuntime) -> ExitCode {
         &mut input,
         &mut output,
         &mut errors,
-        MemDisk::new(alloc, Vec::new(alloc)),
-        MemDisk::new(alloc, Vec::new(alloc)),
+        FileDisk::open(&rt, path_a.as_str()),
+        FileDisk::open(&rt, path_b.as_str()),
         &mut folder,
         &mut clock,
     );
@@ -57,6 +63,16 @@ fn words(rt: &(impl Env + Alloc<A = Global>)) -> Result<Vec<String>, AllocError>
             Ok(words)
         }
     }
+}
+
+// The path of one of the store's files. Where the words name no store it is empty, and so names no
+// file: each call of such a disk fails.
+fn path_of(alloc: Global, words: &[String], name: &str) -> Result<String, AllocError> {
+    if words.len() < BEFORE {
+        return Ok(String::new(alloc));
+    }
+    let store = words[1].as_str();
+    format!(in alloc; "{store}/{name}")
 }
 
 // The words of the command.

@@ -1,2 +1,7 @@
 pub mod Lines
 pub mod Commands
+pub mod Statuses
+pub mod Keeps
+pub mod Refusing
+pub mod Opened
+pub mod Counting

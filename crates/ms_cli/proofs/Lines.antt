@@ -3,7 +3,7 @@ use Rattle.std.proofs.Common.{◌≡◌, ℕ, List, [], string_bytes, Option, So
 use Rattle.std.specs.declared.alloc.AllocError.{AllocError}
 use Rattle.std.proofs.lemmas.List.{append-nil}
 use Rattle.hms_outside.specs.Told.{Goes, Grew, Held, Same}
-use Rattle.ms_cli.specs.Local.{TellsLine, TellsNothing}
+use Rattle.ms_cli.specs.Telling.{TellsLine, TellsNothing}
 
 -- nothing was written
 same_grew : (a b : Option Held) → Goes Same a b → Goes (Grew []) a b

@@ -1,6 +1,6 @@
 //! Laws of the top call, each the contract of a function that does nothing.
 
-ghost use Rattle.ms_cli.specs.Laws.{PipeHasNoStoreFault, WholeTextsArePiped};
+ghost use Rattle.ms_cli.specs.Laws.{StoreFaultsAreCounted, WholeTextsArePiped};
 
 use ms_session::whole_texts_are_served;
 
@@ -13,7 +13,7 @@ pub fn whole_texts_are_piped()
     whole_texts_are_served();
 }
 
-/// `pipe` lies in memory, so none of its replies is a fault of the store.
-pub fn pipe_has_no_store_fault()
-    ensures { PipeHasNoStoreFault }
+/// Where the disks count no fault in a call of `pipe`, none of its replies is a fault of the store.
+pub fn store_faults_are_counted()
+    ensures { StoreFaultsAreCounted }
 {}

@@ -3,7 +3,11 @@
 
 mod laws;
 mod local;
+mod making;
+mod piping;
 mod telling;
+mod words;
 
-pub use laws::{pipe_has_no_store_fault, whole_texts_are_piped};
+pub use laws::{store_faults_are_counted, whole_texts_are_piped};
 pub use local::{LocalEnd, run_local};
+pub use words::{Command, Usage};

@@ -1,12 +1,38 @@
-//! Telling on the sink of errors why the program doesn't end well.
+//! Telling on the sink of errors why the program doesn't end well, and the statuses.
 
-ghost use Rattle.std.specs.Prelude.{IfOk, OnErr, string_bytes};
+ghost use Rattle.std.specs.Prelude.{◌≡◌, IfOk, OnErr, string_bytes};
 ghost use Rattle.hms_outside.specs.Causes.{HasCause};
-ghost use Rattle.ms_cli.specs.Local.{TellsEnd, TellsLine, TellsNothing, usage};
+ghost use Rattle.ms_cli.specs.Telling.{TellsEnd, TellsLine, TellsNothing, refusal_line, refusal_status, status_of, usage_line};
 
+use crate::Usage;
 use hms_outside::{Outage, Sink, send_all};
+use ms_journal::OpenFault;
 use ms_session::End;
 use std::alloc::{AllocError, Global};
+
+/// The status of a session's end.
+pub fn status(end: End) -> u8
+    ensures { result ≡ status_of end }
+{
+    match end {
+        End::Done | End::Shutdown => 0,
+        End::ReadFault => 3,
+        End::WriteFault => 4,
+        End::Truncated(_) | End::BadWire(_, _) | End::TooLarge(_) => 7,
+        End::NoMemory => 10,
+    }
+}
+
+/// The status where a store isn't made or opened.
+pub fn refused_status(fault: OpenFault) -> u8
+    ensures { result ≡ refusal_status fault }
+{
+    match fault {
+        OpenFault::DiskFault => 5,
+        OpenFault::NotEmpty | OpenFault::Foreign | OpenFault::Broken(_) => 6,
+        OpenFault::NoMemory => 10,
+    }
+}
 
 /// Tells how a session ended. A good end has no line.
 pub fn tell<E: Sink>(alloc: Global, errors: &mut E, end: End) -> Result<(), Outage>
@@ -30,12 +56,36 @@ pub fn tell<E: Sink>(alloc: Global, errors: &mut E, end: End) -> Result<(), Outa
     }
 }
 
-/// Tells that the words are no command.
-pub fn tell_usage<E: Sink>(errors: &mut E) -> Result<(), Outage>
-    ensures told { TellsLine usage result (E.held errors.old) (E.held errors.new) }
+/// Tells why a store isn't made or opened.
+pub fn tell_refusal<E: Sink>(
+    alloc: Global,
+    errors: &mut E,
+    fault: OpenFault,
+) -> Result<(), Outage>
+    ensures told { TellsLine (refusal_line fault) result (E.held errors.old) (E.held errors.new) }
     ensures cause { HasCause (E.faults errors.old) (E.faults errors.new) result }
 {
-    tell_line(errors, "usage\n")
+    match fault {
+        OpenFault::NotEmpty => tell_line(errors, "store: not empty\n"),
+        OpenFault::Foreign => tell_line(errors, "store: foreign\n"),
+        OpenFault::Broken(at) => {
+            tell_text(errors, format!(in alloc; "store: broken at {at}\n"))
+        }
+        OpenFault::DiskFault => tell_line(errors, "store fault\n"),
+        OpenFault::NoMemory => tell_line(errors, "out of memory\n"),
+    }
+}
+
+/// Tells why the words name no command.
+pub fn tell_usage<E: Sink>(errors: &mut E, usage: Usage) -> Result<(), Outage>
+    ensures told { TellsLine (usage_line usage) result (E.held errors.old) (E.held errors.new) }
+    ensures cause { HasCause (E.faults errors.old) (E.faults errors.new) result }
+{
+    match usage {
+        Usage::Words => tell_line(errors, "usage\n"),
+        Usage::LongWord => tell_line(errors, "usage: word\n"),
+        Usage::Id => tell_line(errors, "usage: HEXID\n"),
+    }
 }
 
 // Writes a line, as far as the sink takes it.

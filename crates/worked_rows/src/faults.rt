@@ -2,9 +2,10 @@
 
 ghost use Rattle.std.specs.Prelude.{None};
 
+use crate::disks::{disk_of, new_store};
 use crate::running::{Ran, input_of, left, run, words_of};
 use crate::showing::{line, numbers, shown};
-use hms_outside::{MemSink, MemSource, Outage, Sink};
+use hms_outside::{MemDisk, MemSink, MemSource, Outage, Sink};
 use std::alloc::Global;
 use table_cases::{Answers, Unable};
 
@@ -14,8 +15,11 @@ use table_cases::{Answers, Unable};
 /// - `read COUNT BYTES`: the input fails behind so many bytes;
 /// - `write CALL BYTES`: the output's call with this number, from 0, fails;
 /// - `full BYTES`: the output never has memory;
-/// - `words WORD ..`: these words, over an input of one byte, which is 0.
+/// - `words WORD ..`: these words, over an input of one byte, which is 0, and a disk with no bytes;
+/// - `long COUNT`: the words `init` and one of so many zeros, over the same;
+/// - `made CALL`: a store is made, and the output's call with this number fails.
 ///
+/// Where a session begins, the disk holds a new store.
 /// The outcome is `STATUS REPLIES FLUSHES REST MOMENT LINE`: at how many bytes the output was flushed,
 /// what a read then gives of the input, and the clock's next moment.
 pub struct Faults;
@@ -24,11 +28,13 @@ impl Answers for Faults {
     fn answer(&self, alloc: Global, input: &str) -> Result<String, Unable> {
         let (word, rest) = input.split_once(' ').unwrap_or((input, ""));
         match word {
-            "whole" => over(alloc, "pipe", source(alloc, rest)?, &[]),
+            "whole" => served(alloc, source(alloc, rest)?, &[]),
             "read" => read(alloc, rest),
             "write" => write(alloc, rest),
             "full" => without_memory(alloc, source(alloc, rest)?),
-            "words" => over(alloc, rest, source(alloc, "00")?, &[]),
+            "words" => started(alloc, rest, &[]),
+            "long" => long(alloc, rest),
+            "made" => made(alloc, rest),
             _ => Err(Unable::Form),
         }
     }
@@ -47,24 +53,52 @@ fn numbered(text: &str) -> Result<(u64, &str), Unable> {
 fn read(alloc: Global, text: &str) -> Result<String, Unable> {
     let (count, digits) = numbered(text)?;
     let source = MemSource::stopping(alloc, input_of(alloc, digits)?, count);
-    over(alloc, "pipe", source, &[])
+    served(alloc, source, &[])
 }
 
 fn write(alloc: Global, text: &str) -> Result<String, Unable> {
     let (call, digits) = numbered(text)?;
-    over(alloc, "pipe", source(alloc, digits)?, &[call])
+    served(alloc, source(alloc, digits)?, &[call])
 }
 
-// Runs the words over a source, with an output whose calls with these numbers fail.
+// A session over a new store, with an output whose calls with these numbers fail.
+fn served(alloc: Global, source: MemSource, fails: &[u64]) -> Result<String, Unable> {
+    let words = words_of(alloc, "pipe")?;
+    over(alloc, &words, source, fails, new_store(alloc)?)
+}
+
+// These words over a disk with no bytes.
+fn started(alloc: Global, words: &str, fails: &[u64]) -> Result<String, Unable> {
+    let words = words_of(alloc, words)?;
+    let empty = disk_of(alloc, &[], &[])?;
+    over(alloc, &words, source(alloc, "00")?, fails, empty)
+}
+
+// A word of so many zeros in place of an id.
+fn long(alloc: Global, count: &str) -> Result<String, Unable> {
+    let count = count.parse::<usize>().or(Err(Unable::Form))?;
+    let mut words = words_of(alloc, "init")?;
+    words.push("0".repeat(alloc, count)?)?;
+    let empty = disk_of(alloc, &[], &[])?;
+    over(alloc, &words, source(alloc, "00")?, &[], empty)
+}
+
+// A store is made, and the output's call with this number fails.
+fn made(alloc: Global, call: &str) -> Result<String, Unable> {
+    let call = call.parse::<u64>().or(Err(Unable::Form))?;
+    started(alloc, "init 00112233445566778899aabbccddeeff", &[call])
+}
+
+// Runs the words over a source and a disk, with an output whose calls with these numbers fail.
 fn over(
     alloc: Global,
-    words: &str,
+    words: &[String],
     mut source: MemSource,
     fails: &[u64],
+    disk: MemDisk,
 ) -> Result<String, Unable> {
-    let words = words_of(alloc, words)?;
     let mut output = MemSink::new(alloc, fails.to_vec(alloc)?);
-    let ran = run(alloc, &words, &mut source, &mut output)?;
+    let ran = run(alloc, words, &mut source, &mut output, disk)?;
     told(alloc, &ran, &mut source, output.bytes(), output.flushes())
 }
 
@@ -106,6 +140,6 @@ impl Sink for Full {
 
 fn without_memory(alloc: Global, mut source: MemSource) -> Result<String, Unable> {
     let words = words_of(alloc, "pipe")?;
-    let ran = run(alloc, &words, &mut source, &mut Full)?;
+    let ran = run(alloc, &words, &mut source, &mut Full, new_store(alloc)?)?;
     told(alloc, &ran, &mut source, &[], &[])
 }

@@ -1,16 +1,19 @@
-//! Runs the worked rows of the metastore's top call: whole sessions by their bytes, and what befalls
-//! a session outside.
+//! Runs the worked rows of the metastore's top call: whole sessions by their bytes, what befalls a
+//! session outside, and what runs and crashes leave of a store.
 #![tactic(auto)]
 
+mod disks;
 mod faults;
 mod running;
 mod sessions;
 mod showing;
+mod stores;
 
 use faults::Faults;
 use sessions::Sessions;
 use std::process::ExitCode;
 use std::rt::Files;
+use stores::Stores;
 use table_cases::{Unable, run_table};
 
 fn main(rt: HostRuntime) -> ExitCode {
@@ -25,5 +28,6 @@ fn main(rt: HostRuntime) -> ExitCode {
 
 fn run(rt: &(impl Files + Print + AllocGlobal)) -> Result<(), Unable> {
     run_table(rt, "pipe", &Sessions)?;
-    run_table(rt, "faults", &Faults)
+    run_table(rt, "faults", &Faults)?;
+    run_table(rt, "stores", &Stores)
 }

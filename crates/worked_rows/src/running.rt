@@ -2,7 +2,7 @@
 
 use cat_values::Bytes;
 use hms_outside::{Clock, MemClock, MemDisk, MemFolder, MemSink, MemSource, Sink, Source};
-use ms_cli::run_local;
+use ms_cli::{LocalEnd, run_local};
 use std::alloc::{AllocError, Global};
 use table_cases::{Unable, bytes_of};
 
@@ -13,33 +13,40 @@ pub struct Ran {
     /// The clock's next moment.
     pub moment: u64,
     pub errors: MemSink,
+    pub disk: MemDisk,
 }
 
-/// Runs the top call with these words. The clock's moments are 10, 20, 30 and 40.
+/// Runs the top call with these words over this disk A. The clock's moments are 10, 20, 30 and 40.
 pub fn run<K: Sink>(
     alloc: Global,
     words: &[String],
     source: &mut MemSource,
     output: &mut K,
+    disk: MemDisk,
 ) -> Result<Ran, AllocError> {
     let mut errors = MemSink::new(alloc, Vec::new(alloc));
     let mut folder = MemFolder::new(alloc, Vec::new(alloc));
     let mut clock = MemClock::new([10, 20, 30, 40].to_vec(alloc)?);
-    let end = run_local(
+    let LocalEnd {
+        status,
+        disk_a,
+        disk_b: _,
+    } = run_local(
         alloc,
         words,
         source,
         output,
         &mut errors,
-        MemDisk::new(alloc, Vec::new(alloc)),
+        disk,
         MemDisk::new(alloc, Vec::new(alloc)),
         &mut folder,
         &mut clock,
     );
     Ok(Ran {
-        status: end.status,
+        status,
         moment: clock.now(),
         errors,
+        disk: disk_a,
     })
 }
 
@@ -54,8 +61,11 @@ pub fn words_of(alloc: Global, text: &str) -> Result<Vec<String>, Unable> {
     Ok(words)
 }
 
-/// The bytes that hexadecimal digits spell.
+/// The bytes that hexadecimal digits spell; `-` is none.
 pub fn input_of(alloc: Global, digits: &str) -> Result<Bytes, Unable> {
+    if digits == "-" {
+        return Ok(Bytes::new(alloc));
+    }
     let bytes = bytes_of(alloc, digits)?;
     Ok(Bytes::from_slice(alloc, &bytes)?)
 }

@@ -1,12 +1,13 @@
 //! Sessions by their bytes: the status, the replies and the line of errors.
 
+use crate::disks::new_store;
 use crate::running::{Ran, input_of, run, words_of};
 use crate::showing::{line, shown};
 use hms_outside::{MemSink, MemSource};
 use std::alloc::Global;
 use table_cases::{Answers, Unable};
 
-/// An input is the bytes of a session, and its outcome `STATUS REPLIES LINE`.
+/// An input is the bytes of a session over a new store, and its outcome `STATUS REPLIES LINE`.
 pub struct Sessions;
 
 impl Answers for Sessions {
@@ -15,7 +16,7 @@ impl Answers for Sessions {
         let words = words_of(alloc, "pipe")?;
         let mut source = MemSource::new(bytes, Vec::new(alloc));
         let mut output = MemSink::new(alloc, Vec::new(alloc));
-        let ran = run(alloc, &words, &mut source, &mut output)?;
+        let ran = run(alloc, &words, &mut source, &mut output, new_store(alloc)?)?;
         told(alloc, &ran, output.bytes())
     }
 }

@@ -1,5 +1,5 @@
 use Rattle.std.proofs.Common.{sym, subst}
-use Rattle.ms_cli.specs.Local.{TellsEnd, line_of}
+use Rattle.ms_cli.specs.Telling.{TellsEnd, line_of}
 use Rattle.ms_session.specs.declared.end.End.{End}
 use Rattle.ms_session.specs.declared.end.End.TheVariants.{Truncated, BadWire, TooLarge}
 use Rattle.ms_cli.proofs.Lines.{told_line}

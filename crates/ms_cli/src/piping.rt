@@ -1,0 +1,76 @@
+//! Serving a session at the store that the disks hold.
+
+ghost use Rattle.std.specs.Prelude.{◌≡◌, ◌≢◌, ◌⊎◌, List, [], IfSome, ℕ};
+ghost use Rattle.hms_outside.specs.Causes.{Rose};
+ghost use Rattle.desk.specs.History.{Entry};
+ghost use Rattle.engine.specs.Opening.{IsBrokenStore};
+ghost use Rattle.ms_cli.specs.Keeping.{seen};
+ghost use Rattle.ms_cli.specs.Local.{Piped, Served, Unopened};
+ghost use Rattle.ms_cli.specs.Telling.{status_of};
+ghost use Rattle.ms_journal.specs.Files.{IsForeign};
+ghost use Rattle.ms_session.specs.declared.end.End.{End};
+
+use crate::LocalEnd;
+use crate::local::refuse;
+use crate::telling::{status, tell};
+use desk::LocalDesk;
+use engine::Engine;
+use hms_outside::{Clock, Disk, Folder, Sink, Source};
+use ms_session::serve_session;
+use std::alloc::Global;
+
+/// Opens the store that the disks hold, and serves a session there.
+pub fn pipe<S: Source, K: Sink, E: Sink, D: Disk, F: Folder, C: Clock>(
+    alloc: Global,
+    input: &mut S,
+    output: &mut K,
+    errors: &mut E,
+    disk_a: D,
+    disk_b: D,
+    folder: &mut F,
+    clock: &mut C,
+) -> LocalEnd<D>
+    ensures did { Piped (record { met = record { left = S.left input.old; held = K.held output.old; clock = C.moments clock.old; files = F.files folder.old }; errors = record { held = E.held errors.old; faults = E.faults errors.old }; disk_a = seen D.lies D.past D.faults disk_a; disk_b = seen D.lies D.past D.faults disk_b }) (record { met = record { left = S.left input.new; held = K.held output.new; clock = C.moments clock.new; files = F.files folder.new }; errors = record { held = E.held errors.new; faults = E.faults errors.new }; disk_a = seen D.lies D.past D.faults result.disk_a; disk_b = seen D.lies D.past D.faults result.disk_b }) result.status ⊎ Unopened (record { met = record { left = S.left input.old; held = K.held output.old; clock = C.moments clock.old; files = F.files folder.old }; errors = record { held = E.held errors.old; faults = E.faults errors.old }; disk_a = seen D.lies D.past D.faults disk_a; disk_b = seen D.lies D.past D.faults disk_b }) (record { met = record { left = S.left input.new; held = K.held output.new; clock = C.moments clock.new; files = F.files folder.new }; errors = record { held = E.held errors.new; faults = E.faults errors.new }; disk_a = seen D.lies D.past D.faults result.disk_a; disk_b = seen D.lies D.past D.faults result.disk_b }) result.status }
+    ensures no_usage { result.status ≢ 2 }
+    ensures read { result.status ≡ 3 → Rose (S.faults input.old) (S.faults input.new) }
+    ensures write { result.status ≡ 4 → Rose (K.faults output.old) (K.faults output.new) }
+    ensures disk { result.status ≡ 5 → Rose (D.faults disk_a) (D.faults result.disk_a) }
+    ensures store { result.status ≡ 6 → IfSome (D.lies disk_a) (λ d. IsForeign d.held ⊎ ((at : ℕ) × IsBrokenStore at d.held)) }
+    ensures input_stays { result.status ≢ 3 → S.faults input.new ≡ S.faults input.old }
+    ensures output_stays { result.status ≢ 4 → K.faults output.new ≡ K.faults output.old }
+    ensures folder { folder.new ≡ folder.old }
+{
+    match Engine::open_store(alloc, disk_a, disk_b) {
+        Ok(engine) => serve(alloc, input, output, errors, engine, folder, clock),
+        Err((fault, disk_a, disk_b)) => refuse(alloc, errors, fault, disk_a, disk_b),
+    }
+}
+
+// Serves a session at a store that was just opened, tells its end, and gives the disks back.
+fn serve<S: Source, K: Sink, E: Sink, D: Disk, F: Folder, C: Clock>(
+    alloc: Global,
+    input: &mut S,
+    output: &mut K,
+    errors: &mut E,
+    engine: Engine<D>,
+    folder: &mut F,
+    clock: &mut C,
+) -> LocalEnd<D>
+    requires { engine.history ≡ [] }
+    ensures served { (entries : List Entry) × (ended : End) × Served engine.start entries ended (record { met = record { left = S.left input.old; held = K.held output.old; clock = C.moments clock.old; files = F.files folder.old }; errors = record { held = E.held errors.old; faults = E.faults errors.old }; disk_a = seen D.lies D.past D.faults engine.disk_a; disk_b = seen D.lies D.past D.faults engine.disk_b }) (record { met = record { left = S.left input.new; held = K.held output.new; clock = C.moments clock.new; files = F.files folder.new }; errors = record { held = E.held errors.new; faults = E.faults errors.new }; disk_a = seen D.lies D.past D.faults result.disk_a; disk_b = seen D.lies D.past D.faults result.disk_b }) × (result.status ≡ status_of ended) }
+    ensures read { result.status ≡ 3 → Rose (S.faults input.old) (S.faults input.new) }
+    ensures write { result.status ≡ 4 → Rose (K.faults output.old) (K.faults output.new) }
+    ensures input_stays { result.status ≢ 3 → S.faults input.new ≡ S.faults input.old }
+    ensures output_stays { result.status ≢ 4 → K.faults output.new ≡ K.faults output.old }
+    ensures folder { folder.new ≡ folder.old }
+{
+    let mut desk = LocalDesk::new(engine);
+    let end = serve_session(alloc, input, output, &mut desk, folder, clock);
+    let _ = tell(alloc, errors, end);
+    let (disk_a, disk_b) = desk.into_core().into_disks();
+    LocalEnd {
+        status: status(end),
+        disk_a,
+        disk_b,
+    }
+}
