@@ -1,6 +1,6 @@
 //! What callers hand in.
 
-use cat_values::{CopyParts, DbRec, NoMemory, Text, TryCopy};
+use cat_values::{CopyParts, DbRec, NoMemory, TableRec, Text, TryCopy};
 use std::alloc::Global;
 
 /// A database as a caller hands it in. An absent name names nothing.
@@ -14,6 +14,30 @@ impl TryCopy for DbArg {
     fn copy(&self, alloc: Global) -> Result<DbArg, NoMemory> {
         match (&self.name, &self.rec).copy_parts(alloc) {
             Ok((name, rec)) => Ok(DbArg { name, rec }),
+            Err(NoMemory) => Err(NoMemory),
+        }
+    }
+}
+
+/// A table as a caller hands it in. An absent name names nothing. Without `has_sd` nothing was said
+/// of how its rows are stored, and `rec.sd` is that of a storage of which nothing is said.
+#[derive(Drop)]
+pub struct TableArg {
+    pub table: Option<Text>,
+    pub db: Option<Text>,
+    pub has_sd: bool,
+    pub rec: TableRec,
+}
+
+impl TryCopy for TableArg {
+    fn copy(&self, alloc: Global) -> Result<TableArg, NoMemory> {
+        match (&self.table, &self.db, &self.rec).copy_parts(alloc) {
+            Ok((table, db, rec)) => Ok(TableArg {
+                table,
+                db,
+                has_sd: self.has_sd,
+                rec,
+            }),
             Err(NoMemory) => Err(NoMemory),
         }
     }

@@ -6,11 +6,12 @@ mod arguments;
 mod calls;
 mod changes;
 mod items;
+mod named;
 mod replicas;
 mod replies;
 mod steps;
 
-pub use arguments::DbArg;
+pub use arguments::{DbArg, TableArg};
 pub use calls::Call;
 pub use cat_values::{
     Bytes, Column, Columns, CopyParts, DbRec, LIST_END, ListOf, MAP_END, MapOf, NoMemory, Order,
@@ -19,6 +20,7 @@ pub use cat_values::{
 };
 pub use changes::{Change, Event, EventKind, Events, Op, Ops};
 pub use items::{Item, Items};
+pub use named::{NamedTable, Tables};
 pub use replicas::{Marked, MarkedOps, Phase, ReplicaRow};
 pub use replies::Reply;
 pub use steps::{Answer, Step};

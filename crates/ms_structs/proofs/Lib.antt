@@ -10,5 +10,7 @@ pub mod Said
 pub mod DatabaseSaid
 pub mod PiecesWritten
 pub mod RequestSaid
+pub mod OwnFields
+pub mod ReadBack
 pub mod RoundTrip
 pub mod LastPairs

@@ -1,31 +1,30 @@
 -- Items that are written one behind the other.
-use Rattle.std.proofs.Common.{◌≡◌, ℕ, List, [], ◌∷◌, ◌++◌, length, Result, Ok, Err, refl, sym, ap, ◌∙◌, pos, flat_map, append_assoc, append-nil}
+use Rattle.std.proofs.Common.{◌≡◌, ℕ, ℤ, List, [], ◌∷◌, ◌++◌, length, Option, Some, None, Result, Ok, Err, refl, sym, ap, ◌∙◌, flat_map, append_assoc, append-nil}
+use Rattle.thrift_binary.specs.Codes.{list_code, map_code, stop_code, struct_code}
 use Rattle.thrift_binary.specs.Sending.{Gathers}
 use Rattle.thrift_binary.specs.Strict.{wire_bytes, fields_bytes, field_bytes, list_bytes, map_bytes}
-use Rattle.thrift_binary.specs.Wire.{text_bytes}
-use Rattle.thrift_binary.specs.Tree.{Wire, Bytes, Field, elements_count, entries_count}
-use Rattle.thrift_binary.specs.Building.{elements_of, entries_of, followed}
-use Rattle.thrift_binary.proofs.Building.{followed_bytes, elements_of_count, elements_of_bytes, entries_of_count, entries_of_bytes}
-use Rattle.cat_values.specs.declared.records.DbRec.{DbRec}
-use Rattle.ms_structs.specs.Written.{texts_tree, params_tree, optional_text, database_fields}
+use Rattle.thrift_binary.specs.Tree.{Wire, Struct, Fields, NoFields, elements_count, entries_count}
+use Rattle.thrift_binary.specs.Building.{elements_of, entries_of}
+use Rattle.thrift_binary.proofs.Building.{elements_of_count, elements_of_bytes, entries_of_count, entries_of_bytes}
+use Rattle.ms_structs.specs.Written.{OwnField, field_spelled, fields_of, given, if_any, items_tree, pairs_tree, with_field}
 
 -- some of the items were written, and these are left
-pub record Some {A : Type 0} (f : A → List ℕ) (all left : List A) (old now : List ℕ) : Type 0 where
+pub record SomeOf {A : Type 0} (f : A → List ℕ) (all left : List A) (old now : List ℕ) : Type 0 where
   pub done : List ℕ
   pub written : now ≡ old ++ done
   pub whole : done ++ flat_map f left ≡ flat_map f all
 
-pub some_none : {A : Type 0} (f : A → List ℕ) (all : List A) (old : List ℕ) → Some f all all old old
+pub some_none : {A : Type 0} (f : A → List ℕ) (all : List A) (old : List ℕ) → SomeOf f all all old old
 some_none f all old = record { done = []; written = sym (append-nil old); whole = refl }
 
-pub some_more : {A : Type 0} (f : A → List ℕ) (all left : List A) (x : A) (old now new : List ℕ) → Some f all (x ∷ left) old now → new ≡ now ++ f x → Some f all left old new
+pub some_more : {A : Type 0} (f : A → List ℕ) (all left : List A) (x : A) (old now new : List ℕ) → SomeOf f all (x ∷ left) old now → new ≡ now ++ f x → SomeOf f all left old new
 some_more f all left x old now new so is = record {
   done = so.done ++ f x;
   written = is ∙ ap (λ w. w ++ f x) so.written ∙ append_assoc old so.done (f x);
   whole = append_assoc so.done (f x) (flat_map f left) ∙ so.whole;
 }
 
-pub some_all : {A : Type 0} (f : A → List ℕ) (all : List A) (old now : List ℕ) → Some f all [] old now → now ≡ old ++ flat_map f all
+pub some_all : {A : Type 0} (f : A → List ℕ) (all : List A) (old now : List ℕ) → SomeOf f all [] old now → now ≡ old ++ flat_map f all
 some_all f all old now so = so.written ∙ ap (λ d. old ++ d) (sym (append-nil so.done) ∙ so.whole)
 
 -- a piece behind a piece that was gathered
@@ -37,36 +36,59 @@ pub gathers_as : {T E : Type 0} (result : Result T E) (old new a b : List ℕ) �
 gathers_as (Ok x) old new a b same h = h ∙ ap (λ w. old ++ w) same
 gathers_as (Err e) old new a b same h = h
 
--- a list of texts, and a map of them
-pub texts_written : {T E : Type 0} (result : Result T E) (n : ℕ) (texts : List (List ℕ)) (old mid new : List ℕ) → n ≡ length texts → mid ≡ old ++ list_bytes 11 n
-    → Gathers mid new result (flat_map text_bytes texts) → Gathers old new result (wire_bytes 15 (texts_tree texts))
-texts_written result n texts old mid new count head rest =
-    gathers_then result old mid new (list_bytes 11 (elements_count (elements_of Bytes texts))) _ (head ∙ ap (λ k. old ++ list_bytes 11 k) (count ∙ sym (elements_of_count Bytes texts)))
-    (gathers_as result mid new _ _ (sym (elements_of_bytes 11 Bytes texts)) rest)
+-- a list of values, and a map of them
+pub list_written : {A T E : Type 0} (result : Result T E) (code n : ℕ) (tree : A → Wire) (items : List A) (old mid new : List ℕ) → n ≡ length items → mid ≡ old ++ list_bytes code n
+    → Gathers mid new result (flat_map (λ item. wire_bytes code (tree item)) items) → Gathers old new result (wire_bytes list_code (items_tree code tree items))
+list_written result code n tree items old mid new count head rest =
+    gathers_then result old mid new (list_bytes code (elements_count (elements_of tree items))) _ (head ∙ ap (λ k. old ++ list_bytes code k) (count ∙ sym (elements_of_count tree items)))
+    (gathers_as result mid new _ _ (sym (elements_of_bytes code tree items)) rest)
 
-abbrev pub key_tree : List ℕ × List ℕ → Wire
-key_tree pair = Bytes pair.0
+pub map_written : {K V T E : Type 0} (result : Result T E) (key value n : ℕ) (key_tree : K → Wire) (value_tree : V → Wire) (pairs : List (K × V)) (old mid new : List ℕ) → n ≡ length pairs → mid ≡ old ++ map_bytes key value n
+    → Gathers mid new result (flat_map (λ pair. wire_bytes key (key_tree pair.0) ++ wire_bytes value (value_tree pair.1)) pairs) → Gathers old new result (wire_bytes map_code (pairs_tree key key_tree value value_tree pairs))
+map_written {K} {V} result key value n key_tree value_tree pairs old mid new count head rest =
+    let keys : K × V → Wire = λ pair. key_tree pair.0 in
+    let values : K × V → Wire = λ pair. value_tree pair.1 in
+    gathers_then result old mid new (map_bytes key value (entries_count (entries_of keys values pairs))) _ (head ∙ ap (λ k. old ++ map_bytes key value k) (count ∙ sym (entries_of_count keys values pairs)))
+    (gathers_as result mid new _ _ (sym (entries_of_bytes key value keys values pairs)) rest)
 
-abbrev pub value_tree : List ℕ × List ℕ → Wire
-value_tree pair = Bytes pair.1
+-- ---- structs
 
-pub params_written : {T E : Type 0} (result : Result T E) (n : ℕ) (params : List (List ℕ × List ℕ)) (old mid new : List ℕ) → n ≡ length params → mid ≡ old ++ map_bytes 11 11 n
-    → Gathers mid new result (flat_map (λ pair. text_bytes pair.0 ++ text_bytes pair.1) params) → Gathers old new result (wire_bytes 13 (params_tree params))
-params_written result n params old mid new count head rest =
-    gathers_then result old mid new (map_bytes 11 11 (entries_count (entries_of key_tree value_tree params))) _ (head ∙ ap (λ k. old ++ map_bytes 11 11 k) (count ∙ sym (entries_of_count key_tree value_tree params)))
-    (gathers_as result mid new _ _ (sym (entries_of_bytes 11 11 key_tree value_tree params)) rest)
+-- a field is its head and its value, and nothing where its value isn't there
+pub field_written : {A T E : Type 0} (result : Result T E) (id : ℤ) (code : ℕ) (tree : A → Wire) (value : A) (old mid new : List ℕ) → mid ≡ old ++ field_bytes code id
+    → Gathers mid new result (wire_bytes code (tree value)) → Gathers old new result (field_spelled (given id code tree value))
+unfolding field_spelled
+field_written result id code tree value old mid new head rest =
+    gathers_then result old mid new (field_bytes code id) (wire_bytes code (tree value) ++ []) head (gathers_as result mid new _ _ (sym (append-nil (wire_bytes code (tree value)))) rest)
 
--- the fields of a database
-pub database_written : {T E : Type 0} (result : Result T E) (name : List ℕ) (rec : DbRec) (old w1 w2 w3 w4 w5 w6 new : List ℕ)
-    → w1 ≡ old ++ field_bytes 11 (pos 1) → w2 ≡ w1 ++ text_bytes name → w3 ≡ w2 ++ fields_bytes (optional_text (pos 2) rec.description)
-    → w4 ≡ w3 ++ fields_bytes (optional_text (pos 3) rec.location) → w5 ≡ w4 ++ field_bytes 13 (pos 4) → w6 ≡ w5 ++ wire_bytes 13 (params_tree rec.params)
-    → Gathers w6 new result (fields_bytes (optional_text (pos 6) rec.owner)) → Gathers old new result (fields_bytes (database_fields name rec))
-database_written result name rec old w1 w2 w3 w4 w5 w6 new e1 e2 e3 e4 e5 e6 last =
-    let described = optional_text (pos 2) rec.description in
-    let located = optional_text (pos 3) rec.location in
-    let rest = Field 13 (pos 4) (params_tree rec.params) (optional_text (pos 6) rec.owner) in
-    gathers_then result old w1 new (field_bytes 11 (pos 1)) _ e1 (gathers_then result w1 w2 new (text_bytes name) _ e2
-    (gathers_as result w2 new (fields_bytes described ++ fields_bytes (followed located rest)) _ (sym (followed_bytes described (followed located rest)))
-    (gathers_then result w2 w3 new (fields_bytes described) _ e3
-    (gathers_as result w3 new (fields_bytes located ++ fields_bytes rest) _ (sym (followed_bytes located rest))
-    (gathers_then result w3 w4 new (fields_bytes located) _ e4 (gathers_then result w4 w5 new (field_bytes 13 (pos 4)) _ e5 (gathers_then result w5 w6 new (wire_bytes 13 (params_tree rec.params)) _ e6 last)))))))
+pub nothing_written : {A : Type 0} (id : ℤ) (code : ℕ) (tree : A → Wire) (old : List ℕ) → old ≡ old ++ field_spelled (if_any id code tree None)
+unfolding field_spelled
+nothing_written id code tree old = sym (append-nil old)
+
+-- how fields are spelled, one behind the other, and the end of their struct
+abbrev all_spelled : List OwnField → List ℕ
+all_spelled [] = stop_code ∷ []
+all_spelled (field ∷ fields) = field_spelled field ++ all_spelled fields
+
+with_field_spelled : (id : ℤ) (code : ℕ) (value : Option Wire) (v : Fields) → fields_bytes (with_field id code value NoFields) ++ fields_bytes v ≡ fields_bytes (with_field id code value v)
+with_field_spelled id code None v = refl
+with_field_spelled id code (Some w) v = append_assoc (field_bytes code id) (wire_bytes code w ++ []) (fields_bytes v) ∙ ap (λ t. field_bytes code id ++ (t ++ fields_bytes v)) (append-nil (wire_bytes code w))
+
+struct_spelled : (fields : List OwnField) → all_spelled fields ≡ wire_bytes struct_code (Struct (fields_of fields))
+unfolding field_spelled
+struct_spelled [] = refl
+struct_spelled (field ∷ fields) =
+    let one = fields_bytes (with_field field.id field.code field.value NoFields) in
+    ap (λ t. one ++ t) (struct_spelled fields) ∙ sym (append_assoc one (fields_bytes (fields_of fields)) (stop_code ∷ [])) ∙ ap (λ t. t ++ stop_code ∷ []) (with_field_spelled field.id field.code field.value (fields_of fields))
+
+-- the fields were written, one after the other, and behind them the end of their struct
+pub data WroteAll {T E : Type 0} (result : Result T E) (new : List ℕ) : List ℕ → List OwnField → Type 0 where
+  then_end : {old : List ℕ} → Gathers old new result (stop_code ∷ []) → WroteAll result new old []
+  then_field : {old mid : List ℕ} {field : OwnField} {fields : List OwnField} → mid ≡ old ++ field_spelled field → WroteAll result new mid fields → WroteAll result new old (field ∷ fields)
+
+all_gathered : {T E : Type 0} (result : Result T E) (fields : List OwnField) (old new : List ℕ) → WroteAll result new old fields → Gathers old new result (all_spelled fields)
+all_gathered result [] old new (then_end h) = h
+all_gathered result (field ∷ fields) old new (then_field {mid = mid} first rest) = gathers_then result old mid new (field_spelled field) (all_spelled fields) first (all_gathered result fields mid new rest)
+
+-- so the struct was
+pub struct_written : {T E : Type 0} (result : Result T E) (fields : List OwnField) (old new : List ℕ) → WroteAll result new old fields → Gathers old new result (wire_bytes struct_code (Struct (fields_of fields)))
+struct_written result fields old new h = gathers_as result old new (all_spelled fields) _ (struct_spelled fields) (all_gathered result fields old new h)

@@ -4,7 +4,7 @@ use Rattle.std.specs.Ordering.{int_eq}
 use Rattle.ms_structs.specs.declared.got.Got.{Got}
 use Rattle.ms_structs.specs.declared.got.Got.TheVariants.{Nothing, BadText, Is}
 use Rattle.thrift_binary.specs.Tree.{Wire, Fields, NoFields, Field}
-use Rattle.ms_structs.specs.Slots.{only, over, said, slot, typed}
+use Rattle.ms_structs.specs.Slots.{fold_fields, only, over, said, slot, typed}
 
 pub over_nothing : {T : Type 0} (a : Got T) → over a Nothing ≡ a
 over_nothing Nothing = refl
@@ -35,3 +35,17 @@ said_only key code means (Field ty id w v) = only_at (int_eq id key) key code me
 
 pub said_same : {T : Type 0} (key : ℤ) (code : ℕ) (means : Wire → Got T) (v v' : Fields) → ((key : ℤ) → only key v ≡ only key v') → said key code means v ≡ said key code means v'
 said_same key code means v v' same = said_only key code means v ∙ ap (λ x. said key code means x) (same key) ∙ sym (said_only key code means v')
+
+-- a slot behind some fields holds what the last one with its id says, over what it held
+slot_behind : {A T : Type 0} (set : A → ℕ → ℤ → Wire → A) (part : A → Got T) (key : ℤ) (code : ℕ) (means : Wire → Got T) → ((f : A) (ty : ℕ) (id : ℤ) (w : Wire) → part (set f ty id w) ≡ slot key code means (part f) ty id w)
+    → (v : Fields) (f : A) → part (fold_fields set f v) ≡ over (said key code means v) (part f)
+slot_behind set part key code means one NoFields f = refl
+slot_behind set part key code means one (Field ty id w v) f =
+    slot_behind set part key code means one v (set f ty id w)
+    ∙ ap (λ x. over (said key code means v) x) (one f ty id w)
+    ∙ slot_over key code means (said key code means v) (part f) ty id w
+
+-- a slot that held nothing holds what they say
+pub slot_is : {A T : Type 0} (set : A → ℕ → ℤ → Wire → A) (none : A) (v : Fields) (part : A → Got T) (key : ℤ) (code : ℕ) (means : Wire → Got T)
+    → ((f : A) (ty : ℕ) (id : ℤ) (w : Wire) → part (set f ty id w) ≡ slot key code means (part f) ty id w) → part none ≡ Nothing → {got : Got T} → said key code means v ≡ got → part (fold_fields set none v) ≡ got
+slot_is set none v part key code means one empty says = slot_behind set part key code means one v none ∙ ap (λ x. over (said key code means v) x) empty ∙ over_nothing (said key code means v) ∙ says

@@ -1,11 +1,13 @@
 -- What a struct says, in plainer words than the fold over its fields.
-use Rattle.std.specs.Prelude.{◌≡◌, ◌↔◌, ◌⊎◌, ℕ, ℤ, pos, List, [], ◌∷◌, Option, None, Some, ⊤, if◌then◌else◌}
+use Rattle.std.specs.Prelude.{◌≡◌, ◌↔◌, ◌⊎◌, ℕ, ℤ, pos, List, Option, None, Some, ⊤, if◌then◌else◌}
 use Rattle.std.specs.Cmp.Lexicographic.{slice_cmp}
+use Rattle.std.specs.List.{AllByRecursion}
 use Rattle.std.specs.List.Sorted.{IsStrictlySortedBy}
 use Rattle.std.specs.Map.{keys_of, lookup}
 use Rattle.std.specs.Ordering.{nat_cmp}
 use Rattle.std.specs.Str.{IsUtf8, bytes_eq}
 use Rattle.cat_values.specs.declared.records.DbRec.{DbRec}
+use Rattle.ms_structs.specs.declared.got.Got.{Got}
 use Rattle.ms_structs.specs.declared.got.Got.TheVariants.{BadText, Is}
 use Rattle.ms_structs.specs.Written.{database_fields}
 use Rattle.thrift_binary.specs.Codes.{map_code, text_code}
@@ -24,9 +26,9 @@ DatabaseIsSaid = (v : Fields) → database_made v ≡ database_whole (record {
   owner = said (pos 6) text_code text_of v;
 })
 
--- structs that have the same fields under each id, whatever stands between them, say the same database
-abbrev pub OrderIsFree : Type 0
-OrderIsFree = (v v' : Fields) → ((key : ℤ) → only key v ≡ only key v') → database_of (Struct v) ≡ database_of (Struct v')
+-- structs that have the same fields under each id, whatever stands between them, say the same
+abbrev pub OrderIsFree : {A : Type 0} → (Wire → Got A) → Type 0
+OrderIsFree means = (v v' : Fields) → ((key : ℤ) → only key v ≡ only key v') → means (Struct v) ≡ means (Struct v')
 
 -- a text in UTF-8, if any
 abbrev pub IsTextOrNone : Option (List ℕ) → Type 0
@@ -35,8 +37,7 @@ IsTextOrNone (Some text) = IsUtf8 text
 
 -- pairs of texts in UTF-8
 abbrev pub ArePairs : List (List ℕ × List ℕ) → Type 0
-ArePairs [] = ⊤
-ArePairs (pair ∷ pairs) = (IsUtf8 pair.0 × IsUtf8 pair.1) × ArePairs pairs
+ArePairs = AllByRecursion (λ pair. IsUtf8 pair.0 × IsUtf8 pair.1)
 
 -- what holds of every record in memory: its texts are UTF-8, and its parameters stand in rising order of their keys
 pub record IsKept (rec : DbRec) : Type 0 where

@@ -1,5 +1,5 @@
 -- What the fields of a struct say. A slot gathers what the fields with one id say.
-use Rattle.std.specs.Prelude.{◌==◌, if◌then◌else◌, ℕ, ℤ, Option, None, Some}
+use Rattle.std.specs.Prelude.{◌==◌, if◌then◌else◌, ℕ, ℤ, Bool, true, false, Option, None, Some}
 use Rattle.std.specs.Ordering.{int_eq}
 use Rattle.ms_structs.specs.declared.got.Got.{Got}
 use Rattle.ms_structs.specs.declared.got.Got.TheVariants.{Nothing, BadText, Is}
@@ -65,3 +65,28 @@ given_or absent (Is value) = Some value
 abbrev pub for_said : {A B : Type 0} → Option A → (A → Option B) → Option B
 for_said (Some a) go = go a
 for_said None go = None
+
+-- ---- what is made of many slots at once
+
+-- whether a text in a slot is bad
+abbrev pub is_bad : {T : Type 0} → Got T → Bool
+is_bad Nothing = false
+is_bad BadText = true
+is_bad (Is value) = false
+
+-- the value of a slot, if it has one
+abbrev pub value_of : {T : Type 0} → Got T → Option T
+value_of Nothing = None
+value_of BadText = None
+value_of (Is value) = Some value
+
+-- the value of a slot, or else this one
+abbrev pub value_or : {T : Type 0} → T → Got T → T
+value_or other Nothing = other
+value_or other BadText = other
+value_or other (Is value) = value
+
+-- what is made of the slots, unless a text in one of them is bad
+abbrev pub unless_bad : {A : Type 0} → Bool → A → Option A
+unless_bad true made = None
+unless_bad false made = Some made

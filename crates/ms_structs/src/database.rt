@@ -5,14 +5,14 @@ ghost use Rattle.hms_outside.specs.Causes.{Rose, StaysBut};
 ghost use Rattle.ms_structs.specs.Getting.{Makes};
 ghost use Rattle.thrift_binary.specs.Codes.{struct_code};
 ghost use Rattle.thrift_binary.specs.Sending.{Gathers};
-ghost use Rattle.thrift_binary.specs.Strict.{fields_bytes, wire_bytes};
+ghost use Rattle.thrift_binary.specs.Strict.{wire_bytes};
 ghost use Rattle.thrift_binary.specs.Tree.{Struct};
 ghost use Rattle.ms_structs.specs.Written.{database_fields};
-ghost use Rattle.ms_structs.specs.Database.{database_made, database_none, database_of, database_set, database_whole};
+ghost use Rattle.ms_structs.specs.Database.{database_is_bad, database_made, database_none, database_of, database_set, database_whole};
 
-use crate::writing::{put_optional, put_params};
 use crate::{
-    FieldSink, FromWire, Got, StructFault, StructSink, read_struct, read_whole, skip_field,
+    FieldSink, FromWire, Got, StructFault, StructSink, put_field, put_optional, read_struct,
+    read_whole, skip_field,
 };
 use cat_types::{DbArg, DbRec, MapOf, NoMemory, Params, Text};
 use hms_outside::Source;
@@ -68,24 +68,37 @@ impl StructSink for DatabaseFields {
     ghost whole = { database_whole };
 
     fn finish(self, alloc: Global) -> Option<DbArg> {
-        let name = self.name.optional()?;
-        let description = self.description.optional()?;
-        let location = self.location.optional()?;
-        let params = self.params.or(MapOf::new(alloc))?;
-        let owner = self.owner.optional()?;
+        if self.has_bad_text() {
+            return None;
+        }
         Some(DbArg {
-            name,
+            name: self.name.value(),
             rec: DbRec {
-                description,
-                location,
-                params,
-                owner,
+                description: self.description.value(),
+                location: self.location.value(),
+                params: self.params.value_or(MapOf::new(alloc)),
+                owner: self.owner.value(),
             },
         })
     }
 }
 
+impl DatabaseFields {
+    // Whether a text that counts isn't UTF-8.
+    fn has_bad_text(&self) -> bool
+        ensures { result ≡ database_is_bad self.now }
+    {
+        self.name.is_bad()
+            || self.description.is_bad()
+            || self.location.is_bad()
+            || self.params.is_bad()
+            || self.owner.is_bad()
+    }
+}
+
 impl FromWire for DbArg {
+    type Value = DbArg;
+
     ghost CODE = { struct_code };
 
     const CODE: u8 = type_code::STRUCT;
@@ -120,19 +133,10 @@ pub fn read_database<S: Source>(
 pub fn write_database(writer: &mut WireWriter, name: &Text, rec: &DbRec) -> Result<(), NoMemory>
     ensures { Gathers writer.old writer.new result (wire_bytes struct_code (Struct (database_fields name.now rec.now))) }
 {
-    put_database_fields(writer, name, rec)?;
+    put_field::<Text>(writer, 1, name)?;
+    put_optional::<Text>(writer, 2, &rec.description)?;
+    put_optional::<Text>(writer, 3, &rec.location)?;
+    put_field::<Params>(writer, 4, &rec.params)?;
+    put_optional::<Text>(writer, 6, &rec.owner)?;
     writer.stop()
-}
-
-// The fields of a database.
-fn put_database_fields(writer: &mut WireWriter, name: &Text, rec: &DbRec) -> Result<(), NoMemory>
-    ensures { Gathers writer.old writer.new result (fields_bytes (database_fields name.now rec.now)) }
-{
-    writer.field(type_code::STRING, 1)?;
-    writer.text(name)?;
-    put_optional(writer, 2, &rec.description)?;
-    put_optional(writer, 3, &rec.location)?;
-    writer.field(type_code::MAP, 4)?;
-    put_params(writer, &rec.params)?;
-    put_optional(writer, 6, &rec.owner)
 }

@@ -16,21 +16,25 @@ use hms_outside::Source;
 use std::alloc::Global;
 use thrift_binary::{WireFault, WireReader, type_code};
 
-/// What is read off a value of one type.
-pub trait FromWire: Drop {
+/// A type of the wire, and what is read off its values. A type that is its own value stands for
+/// itself; a struct of another crate's type is named by one of its own.
+pub trait FromWire {
+    /// What a value is read as.
+    type Value: Drop;
+
     /// The code of the type.
     ghost CODE: { ℕ };
 
     const CODE: u8;
 
     /// What a value says, as a tree.
-    ghost means: { Wire → Got Self };
+    ghost means: { Wire → Got Self.Value };
 
     /// Reads a value of this type.
     fn read<S: Source>(
         alloc: Global,
         reader: &mut WireReader<'_, S>,
-    ) -> Result<Got<Self>, WireFault>
+    ) -> Result<Got<Self::Value>, WireFault>
         ensures same_source { reader.new.source.ghost_name ≡ reader.old.source.ghost_name }
         ensures later { S.faults reader.old.source.now ≤ S.faults reader.new.source.now }
         ensures cause { reader.old.progress.fault ≡ None → IsErrOf result WireFault.ReadFault → Rose (S.faults reader.old.source.now) (S.faults reader.new.source.now) }
@@ -43,7 +47,7 @@ pub fn read_typed<T: FromWire, S: Source>(
     alloc: Global,
     reader: &mut WireReader<'_, S>,
     ty: u8,
-) -> Result<Got<T>, WireFault>
+) -> Result<Got<T::Value>, WireFault>
     requires { IsCode ty }
     ensures same_source { reader.new.source.ghost_name ≡ reader.old.source.ghost_name }
     ensures later { S.faults reader.old.source.now ≤ S.faults reader.new.source.now }
@@ -70,9 +74,29 @@ pub fn skip_field<S: Source>(reader: &mut WireReader<'_, S>, ty: u8) -> Result<(
     reader.skip(ty)
 }
 
-impl<T: FromWire> Got<T> {
+impl<T: FromWire<Value = T> + Drop> Got<T> {
     /// Reads the value of a field of this slot, or skips it where its type is another.
     pub fn take<S: Source>(
+        &mut self,
+        alloc: Global,
+        reader: &mut WireReader<'_, S>,
+        ty: u8,
+    ) -> Result<(), WireFault>
+        requires { IsCode ty }
+        ensures same_source { reader.new.source.ghost_name ≡ reader.old.source.ghost_name }
+        ensures later { S.faults reader.old.source.now ≤ S.faults reader.new.source.now }
+        ensures cause { reader.old.progress.fault ≡ None → IsErrOf result WireFault.ReadFault → Rose (S.faults reader.old.source.now) (S.faults reader.new.source.now) }
+        ensures stays { StaysBut WireFault.ReadFault result (S.faults reader.old.source.now) (S.faults reader.new.source.now) }
+        ensures reads { Gets (S.left reader.old.source.now) (S.left reader.new.source.now) reader.old.progress reader.new.progress result (λ w. IsWire w reader.old.progress.room ty) (λ w _. self.new ≡ over (typed T.CODE T.means ty w) self.old) (StopsWire reader.old.progress.room ty) }
+    {
+        self.take_as::<T, S>(alloc, reader, ty)
+    }
+}
+
+impl<V: Drop> Got<V> {
+    /// Reads the value of a field of this slot as one of the type `T` of the wire, or skips it
+    /// where its type is another.
+    pub fn take_as<T: FromWire<Value = V>, S: Source>(
         &mut self,
         alloc: Global,
         reader: &mut WireReader<'_, S>,
@@ -91,6 +115,8 @@ impl<T: FromWire> Got<T> {
 }
 
 impl FromWire for bool {
+    type Value = bool;
+
     ghost CODE = { bool_code };
 
     const CODE: u8 = type_code::BOOL;
@@ -106,6 +132,8 @@ impl FromWire for bool {
 }
 
 impl FromWire for i32 {
+    type Value = i32;
+
     ghost CODE = { i32_code };
 
     const CODE: u8 = type_code::I32;
@@ -121,6 +149,8 @@ impl FromWire for i32 {
 }
 
 impl FromWire for i64 {
+    type Value = i64;
+
     ghost CODE = { i64_code };
 
     const CODE: u8 = type_code::I64;
@@ -136,6 +166,8 @@ impl FromWire for i64 {
 }
 
 impl FromWire for Text {
+    type Value = Text;
+
     ghost CODE = { text_code };
 
     const CODE: u8 = type_code::STRING;

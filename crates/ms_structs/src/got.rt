@@ -2,7 +2,7 @@
 
 ghost use Rattle.std.specs.Prelude.{◌≡◌, ℕ, ◌≤◌, IsErrOf};
 ghost use Rattle.hms_outside.specs.Causes.{Rose};
-ghost use Rattle.ms_structs.specs.Slots.{given_or, optional_of, over, said_or_bad};
+ghost use Rattle.ms_structs.specs.Slots.{given_or, is_bad, optional_of, over, said_or_bad, value_of, value_or};
 
 use std::alloc::Global;
 
@@ -48,6 +48,36 @@ impl<T: Drop> Got<T> {
             Got::Nothing => Some(absent),
             Got::BadText => None,
             Got::Is(value) => Some(value),
+        }
+    }
+
+    /// Whether a text is bad.
+    pub fn is_bad(&self) -> bool
+        ensures { result ≡ is_bad self.now }
+    {
+        match self {
+            Got::BadText => true,
+            Got::Nothing | Got::Is(_) => false,
+        }
+    }
+
+    /// The value, if there is one.
+    pub fn value(self) -> Option<T>
+        ensures { result ≡ value_of self }
+    {
+        match self {
+            Got::Nothing | Got::BadText => None,
+            Got::Is(value) => Some(value),
+        }
+    }
+
+    /// The value, or else this one.
+    pub fn value_or(self, other: T) -> T
+        ensures { result ≡ value_or other self }
+    {
+        match self {
+            Got::Nothing | Got::BadText => other,
+            Got::Is(value) => value,
         }
     }
 }

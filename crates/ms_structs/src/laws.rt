@@ -1,5 +1,6 @@
 //! What structs say, proved over all of them.
 
+ghost use Rattle.ms_structs.specs.Database.{database_of};
 ghost use Rattle.ms_structs.specs.Laws.{BadMapsAreTold, DatabaseIsSaid, LastPairCounts, OrderIsFree, WrittenIsRead};
 
 /// A database is made of what the last field with each known id says, of those that say something:
@@ -10,7 +11,7 @@ pub fn database_is_said()
 
 /// The order of fields with different ids doesn't count.
 pub fn order_is_free()
-    ensures { OrderIsFree }
+    ensures { OrderIsFree database_of }
 {}
 
 /// Of the pairs of a map from texts to texts the last one with a key counts.

@@ -15,6 +15,7 @@ mod notifications;
 mod pairs;
 mod struct_fault;
 mod structs;
+mod to_wire;
 mod told_events;
 mod writing;
 
@@ -36,4 +37,5 @@ pub use notifications::{
 pub use pairs::PairsSoFar;
 pub use struct_fault::StructFault;
 pub use structs::{FieldSink, StructSink, read_slots, read_struct, read_whole};
-pub use writing::{put_optional, put_params, put_texts};
+pub use to_wire::{ToWire, put_field, put_optional};
+pub use writing::{put_list, put_texts};

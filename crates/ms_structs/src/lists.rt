@@ -17,6 +17,8 @@ use std::alloc::Global;
 use thrift_binary::{WireFault, WireReader, type_code};
 
 impl<T: FromWire> FromWire for ListOf<T> {
+    type Value = ListOf<T::Value>;
+
     ghost CODE = { list_code };
 
     const CODE: u8 = type_code::LIST;
@@ -26,7 +28,7 @@ impl<T: FromWire> FromWire for ListOf<T> {
     fn read<S: Source>(
         alloc: Global,
         reader: &mut WireReader<'_, S>,
-    ) -> Result<Got<ListOf<T>>, WireFault> {
+    ) -> Result<Got<ListOf<T::Value>>, WireFault> {
         reader.open()?;
         let (ty, count) = reader.list()?;
         let items = read_items::<T, S>(alloc, reader, ty, count)?;
@@ -58,7 +60,7 @@ fn read_items<T: FromWire, S: Source>(
     reader: &mut WireReader<'_, S>,
     ty: u8,
     count: u32,
-) -> Result<Option<ListOf<T>>, WireFault>
+) -> Result<Option<ListOf<T::Value>>, WireFault>
     requires unspent { reader.old.progress.fault ≡ None }
     requires code { IsElementType count ty }
     ensures same_source { reader.new.source.ghost_name ≡ reader.old.source.ghost_name }

@@ -16,7 +16,9 @@ use hms_outside::Source;
 use std::alloc::Global;
 use thrift_binary::{WireFault, WireReader, type_code};
 
-impl<K: FromWire + Ord, V: FromWire> FromWire for MapOf<K, V> {
+impl<K: FromWire<Value = K> + Ord + Drop, V: FromWire> FromWire for MapOf<K, V> {
+    type Value = MapOf<K, V::Value>;
+
     ghost CODE = { map_code };
 
     const CODE: u8 = type_code::MAP;
@@ -26,7 +28,7 @@ impl<K: FromWire + Ord, V: FromWire> FromWire for MapOf<K, V> {
     fn read<S: Source>(
         alloc: Global,
         reader: &mut WireReader<'_, S>,
-    ) -> Result<Got<MapOf<K, V>>, WireFault> {
+    ) -> Result<Got<MapOf<K, V::Value>>, WireFault> {
         reader.open()?;
         let (key_type, value_type, count) = reader.map()?;
         let pairs = read_pairs::<K, V, S>(alloc, reader, key_type, value_type, count)?;
@@ -63,13 +65,13 @@ fn judged<K: Ord + Drop, V: Drop>(fits: bool, pairs: Option<PairsSoFar<K, V>>) -
 }
 
 // Reads so many pairs of a key and a value of the types with these codes.
-fn read_pairs<K: FromWire + Ord, V: FromWire, S: Source>(
+fn read_pairs<K: FromWire<Value = K> + Ord + Drop, V: FromWire, S: Source>(
     alloc: Global,
     reader: &mut WireReader<'_, S>,
     key_type: u8,
     value_type: u8,
     count: u32,
-) -> Result<Option<PairsSoFar<K, V>>, WireFault>
+) -> Result<Option<PairsSoFar<K, V::Value>>, WireFault>
     requires unspent { reader.old.progress.fault ≡ None }
     requires keys { IsElementType count key_type }
     requires values { IsElementType count value_type }
@@ -96,7 +98,7 @@ fn read_pair<K: FromWire, V: FromWire, S: Source>(
     reader: &mut WireReader<'_, S>,
     key_type: u8,
     value_type: u8,
-) -> Result<(Got<K>, Got<V>), WireFault>
+) -> Result<(Got<K::Value>, Got<V::Value>), WireFault>
     requires keys { IsCode key_type }
     requires values { IsCode value_type }
     ensures same_source { reader.new.source.ghost_name ≡ reader.old.source.ghost_name }

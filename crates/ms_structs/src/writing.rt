@@ -1,63 +1,82 @@
-//! Writing texts, and lists and maps of them.
+//! Lists and maps onto the wire.
 
-ghost use Rattle.std.specs.Prelude.{◌<◌, ◌^◌, ◌++◌, length};
+ghost use Rattle.std.specs.Prelude.{◌≡◌, ◌<◌, ◌^◌, ◌++◌, length};
 ghost use Rattle.std.specs.List.{flat_map};
 ghost use Rattle.thrift_binary.specs.Codes.{list_code, map_code};
 ghost use Rattle.thrift_binary.specs.Sending.{Gathers};
-ghost use Rattle.thrift_binary.specs.Strict.{fields_bytes, wire_bytes};
-ghost use Rattle.thrift_binary.specs.Wire.{text_bytes};
-ghost use Rattle.ms_structs.specs.Written.{optional_text, params_tree, texts_tree};
+ghost use Rattle.thrift_binary.specs.Strict.{wire_bytes};
+ghost use Rattle.ms_structs.specs.Written.{items_tree, pairs_tree, texts_tree};
 
-use cat_types::{NoMemory, Params, Text};
+use crate::ToWire;
+use cat_types::{ListOf, MapOf, NoMemory, Text};
 use thrift_binary::{WireWriter, type_code};
+
+impl<T: ToWire> ToWire for ListOf<T> {
+    type Value = ListOf<T::Value>;
+
+    ghost CODE = { list_code };
+
+    const CODE: u8 = type_code::LIST;
+
+    ghost tree = { items_tree T.CODE T.tree };
+
+    fn write(writer: &mut WireWriter, value: &ListOf<T::Value>) -> Result<(), NoMemory> {
+        put_list::<T>(writer, value.as_slice())
+    }
+}
+
+impl<K: ToWire<Value = K> + Ord, V: ToWire> ToWire for MapOf<K, V> {
+    type Value = MapOf<K, V::Value>;
+
+    ghost CODE = { map_code };
+
+    const CODE: u8 = type_code::MAP;
+
+    ghost tree = { pairs_tree K.CODE K.tree V.CODE V.tree };
+
+    fn write(writer: &mut WireWriter, value: &MapOf<K, V::Value>) -> Result<(), NoMemory> {
+        writer.map(K::CODE, V::CODE, value.len() as u32)?;
+        put_pairs::<K, V>(writer, value)
+    }
+}
 
 /// A list of texts.
 pub fn put_texts(writer: &mut WireWriter, texts: &[Text]) -> Result<(), NoMemory>
     requires { length texts.now < 2 ^ 31 }
     ensures { Gathers writer.old writer.new result (wire_bytes list_code (texts_tree texts.now)) }
 {
-    writer.list(type_code::STRING, texts.len() as u32)?;
-    put_elements(writer, texts)
+    put_list::<Text>(writer, texts)
 }
 
-// Texts, one behind the other.
-fn put_elements(writer: &mut WireWriter, texts: &[Text]) -> Result<(), NoMemory>
-    ensures { Gathers writer.old writer.new result (flat_map text_bytes texts.now) }
+/// A list of values.
+pub fn put_list<T: ToWire>(writer: &mut WireWriter, items: &[T::Value]) -> Result<(), NoMemory>
+    requires { length items.now < 2 ^ 31 }
+    ensures { Gathers writer.old writer.new result (wire_bytes list_code (items_tree T.CODE T.tree items.now)) }
 {
-    for text in texts {
-        writer.text(text)?;
+    writer.list(T::CODE, items.len() as u32)?;
+    put_elements::<T>(writer, items)
+}
+
+// Values, one behind the other.
+fn put_elements<T: ToWire>(writer: &mut WireWriter, items: &[T::Value]) -> Result<(), NoMemory>
+    ensures { Gathers writer.old writer.new result (flat_map (λ item. wire_bytes T.CODE (T.tree item)) items.now) }
+{
+    for item in items {
+        T::write(writer, item)?;
     }
     Ok(())
 }
 
-/// A map from texts to texts.
-pub fn put_params(writer: &mut WireWriter, params: &Params) -> Result<(), NoMemory>
-    ensures { Gathers writer.old writer.new result (wire_bytes map_code (params_tree params.now)) }
+// Pairs of a key and a value, one behind the other.
+fn put_pairs<K: ToWire<Value = K> + Ord, V: ToWire>(
+    writer: &mut WireWriter,
+    pairs: &MapOf<K, V::Value>,
+) -> Result<(), NoMemory>
+    ensures { Gathers writer.old writer.new result (flat_map (λ pair. wire_bytes K.CODE (K.tree pair.0) ++ wire_bytes V.CODE (V.tree pair.1)) pairs.now) }
 {
-    writer.map(type_code::STRING, type_code::STRING, params.len() as u32)?;
-    put_pairs(writer, params)
-}
-
-// Pairs of texts, one behind the other.
-fn put_pairs(writer: &mut WireWriter, params: &Params) -> Result<(), NoMemory>
-    ensures { Gathers writer.old writer.new result (flat_map (λ pair. text_bytes pair.0 ++ text_bytes pair.1) params.now) }
-{
-    for (key, value) in params.iter() {
-        writer.text(key)?;
-        writer.text(value)?;
+    for (key, value) in pairs.iter() {
+        K::write(writer, key)?;
+        V::write(writer, value)?;
     }
     Ok(())
-}
-
-/// A text in a field with this id; an absent one isn't written.
-pub fn put_optional(writer: &mut WireWriter, id: i16, text: &Option<Text>) -> Result<(), NoMemory>
-    ensures { Gathers writer.old writer.new result (fields_bytes (optional_text id text.now)) }
-{
-    match text {
-        Some(text) => {
-            writer.field(type_code::STRING, id)?;
-            writer.text(text)
-        }
-        None => Ok(()),
-    }
 }

@@ -19,7 +19,7 @@ returns-in_err-item-clause-reads g c =
 
 pub loop-preserved : goal.loop-preserved
 loop-preserved g c =
-    let add = λ (so : Option (List g.row.T.Denot)) (w : Wire). with_item so (typed g.T.FromWire.CODE g.T.FromWire.means c.args.ty w) in
+    let add = λ (so : Option (List g.row.T-Value.Denot)) (w : Wire). with_item so (typed g.T.FromWire.CODE g.T.FromWire.means c.args.ty w) in
     record {
       same_source = search rules;
       stays = c.in_ok-item.ensures.stays ∙ c.loop.invariant.stays;

@@ -1,0 +1,9 @@
+pub mod ColumnLaws
+pub mod ContextLaws
+pub mod Exits
+pub mod OrderLaws
+pub mod RequestLaws
+pub mod SerdeLaws
+pub mod SkewLaws
+pub mod StorageLaws
+pub mod TableLaws

@@ -1,0 +1,84 @@
+use Rattle.std.proofs.Common.{◌≡◌, arith, pos, false, refl}
+use Rattle.std.proofs.lemmas.Int.{ints}
+use Rattle.std.specs.Ordering.{int_eq}
+use Rattle.ms_structs.proofs.Getting.{gets_weaker}
+use Rattle.ms_structs.proofs.Others.{ne_int_eq}
+use Rattle.table_structs.proofs.storages.StorageFieldsFieldSink.take.Goals as goal
+
+-- a field that is known
+pub returns-in-1-clause-reads : goal.returns-in-1-clause-reads
+returns-in-1-clause-reads g c =
+    let is : c.args.id ≡ pos 1 = omega (arith, ints) in
+    gets_weaker _ _ _ _ _ _ _ _ _ (λ w v h. rw is (λ i. record c.args.self.now { cols = h i })) c.take_as.ensures.reads
+
+pub returns-in-2-clause-reads : goal.returns-in-2-clause-reads
+returns-in-2-clause-reads g c =
+    let is : c.args.id ≡ pos 2 = omega (arith, ints) in
+    gets_weaker _ _ _ _ _ _ _ _ _ (λ w v h. rw is (λ i. record c.args.self.now { location = h i })) c.take.ensures.reads
+
+pub returns-in-3-clause-reads : goal.returns-in-3-clause-reads
+returns-in-3-clause-reads g c =
+    let is : c.args.id ≡ pos 3 = omega (arith, ints) in
+    gets_weaker _ _ _ _ _ _ _ _ _ (λ w v h. rw is (λ i. record c.args.self.now { input = h i })) c.take-in-3.ensures.reads
+
+pub returns-in-4-clause-reads : goal.returns-in-4-clause-reads
+returns-in-4-clause-reads g c =
+    let is : c.args.id ≡ pos 4 = omega (arith, ints) in
+    gets_weaker _ _ _ _ _ _ _ _ _ (λ w v h. rw is (λ i. record c.args.self.now { output = h i })) c.take-in-4.ensures.reads
+
+pub returns-in-5-clause-reads : goal.returns-in-5-clause-reads
+returns-in-5-clause-reads g c =
+    let is : c.args.id ≡ pos 5 = omega (arith, ints) in
+    gets_weaker _ _ _ _ _ _ _ _ _ (λ w v h. rw is (λ i. record c.args.self.now { compressed = h i })) c.take-in-5.ensures.reads
+
+pub returns-in-6-clause-reads : goal.returns-in-6-clause-reads
+returns-in-6-clause-reads g c =
+    let is : c.args.id ≡ pos 6 = omega (arith, ints) in
+    gets_weaker _ _ _ _ _ _ _ _ _ (λ w v h. rw is (λ i. record c.args.self.now { buckets = h i })) c.take-in-6.ensures.reads
+
+pub returns-in-7-clause-reads : goal.returns-in-7-clause-reads
+returns-in-7-clause-reads g c =
+    let is : c.args.id ≡ pos 7 = omega (arith, ints) in
+    gets_weaker _ _ _ _ _ _ _ _ _ (λ w v h. rw is (λ i. record c.args.self.now { serde = h i })) c.take_as-in-7.ensures.reads
+
+pub returns-in-8-clause-reads : goal.returns-in-8-clause-reads
+returns-in-8-clause-reads g c =
+    let is : c.args.id ≡ pos 8 = omega (arith, ints) in
+    gets_weaker _ _ _ _ _ _ _ _ _ (λ w v h. rw is (λ i. record c.args.self.now { bucket_cols = h i })) c.take-in-8.ensures.reads
+
+pub returns-in-9-clause-reads : goal.returns-in-9-clause-reads
+returns-in-9-clause-reads g c =
+    let is : c.args.id ≡ pos 9 = omega (arith, ints) in
+    gets_weaker _ _ _ _ _ _ _ _ _ (λ w v h. rw is (λ i. record c.args.self.now { sort_cols = h i })) c.take_as-in-9.ensures.reads
+
+pub returns-in-10-clause-reads : goal.returns-in-10-clause-reads
+returns-in-10-clause-reads g c =
+    let is : c.args.id ≡ pos 10 = omega (arith, ints) in
+    gets_weaker _ _ _ _ _ _ _ _ _ (λ w v h. rw is (λ i. record c.args.self.now { params = h i })) c.take-in-10.ensures.reads
+
+pub returns-in-11-clause-reads : goal.returns-in-11-clause-reads
+returns-in-11-clause-reads g c =
+    let is : c.args.id ≡ pos 11 = omega (arith, ints) in
+    gets_weaker _ _ _ _ _ _ _ _ _ (λ w v h. rw is (λ i. record c.args.self.now { skew = h i })) c.take_as-in-11.ensures.reads
+
+pub returns-in-12-clause-reads : goal.returns-in-12-clause-reads
+returns-in-12-clause-reads g c =
+    let is : c.args.id ≡ pos 12 = omega (arith, ints) in
+    gets_weaker _ _ _ _ _ _ _ _ _ (λ w v h. rw is (λ i. record c.args.self.now { sub_dirs = h i })) c.take-in-12.ensures.reads
+
+-- any other
+pub returns-in_default-clause-reads : goal.returns-in_default-clause-reads
+returns-in_default-clause-reads g c =
+    let k1 : int_eq c.args.id (pos 1) ≡ false = ne_int_eq c.args.id (pos 1) (omega (arith, ints)) in
+    let k2 : int_eq c.args.id (pos 2) ≡ false = ne_int_eq c.args.id (pos 2) (omega (arith, ints)) in
+    let k3 : int_eq c.args.id (pos 3) ≡ false = ne_int_eq c.args.id (pos 3) (omega (arith, ints)) in
+    let k4 : int_eq c.args.id (pos 4) ≡ false = ne_int_eq c.args.id (pos 4) (omega (arith, ints)) in
+    let k5 : int_eq c.args.id (pos 5) ≡ false = ne_int_eq c.args.id (pos 5) (omega (arith, ints)) in
+    let k6 : int_eq c.args.id (pos 6) ≡ false = ne_int_eq c.args.id (pos 6) (omega (arith, ints)) in
+    let k7 : int_eq c.args.id (pos 7) ≡ false = ne_int_eq c.args.id (pos 7) (omega (arith, ints)) in
+    let k8 : int_eq c.args.id (pos 8) ≡ false = ne_int_eq c.args.id (pos 8) (omega (arith, ints)) in
+    let k9 : int_eq c.args.id (pos 9) ≡ false = ne_int_eq c.args.id (pos 9) (omega (arith, ints)) in
+    let k10 : int_eq c.args.id (pos 10) ≡ false = ne_int_eq c.args.id (pos 10) (omega (arith, ints)) in
+    let k11 : int_eq c.args.id (pos 11) ≡ false = ne_int_eq c.args.id (pos 11) (omega (arith, ints)) in
+    let k12 : int_eq c.args.id (pos 12) ≡ false = ne_int_eq c.args.id (pos 12) (omega (arith, ints)) in
+    gets_weaker _ _ _ _ _ _ _ _ _ (λ w v h. rw (k1, k2, k3, k4, k5, k6, k7, k8, k9, k10, k11, k12) refl) c.skip_field.ensures.reads

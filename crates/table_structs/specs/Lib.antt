@@ -1,0 +1,10 @@
+pub mod Columns
+pub mod Contexts
+pub mod Kept
+pub mod Laws
+pub mod Orders
+pub mod Requests
+pub mod Serdes
+pub mod Skews
+pub mod Storages
+pub mod Tables
