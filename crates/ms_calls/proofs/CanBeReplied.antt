@@ -5,7 +5,7 @@ use Rattle.cat_types.specs.declared.arguments.DbArg.{DbArg}
 use Rattle.ms_structs.specs.declared.got.Got.{Got}
 use Rattle.ms_structs.specs.declared.got.Got.TheVariants.{Nothing, BadText, Is}
 use Rattle.ms_structs.specs.Database.{database_of}
-use Rattle.ms_structs.specs.Getting.{Gets}
+use Rattle.ms_structs.specs.Getting.{ReadsTree}
 use Rattle.ms_structs.specs.Notifications.{request_of}
 use Rattle.ms_structs.specs.declared.notification_request.NotificationRequest.{NotificationRequest}
 use Rattle.ms_structs.specs.Slots.{said}
@@ -62,7 +62,7 @@ asked_fits (Some method.GetCurrentNotificationEventId) v = (tt, refl)
 
 -- so does what was read
 pub read_fits : (m : Option Method) (a b : Option (List ℕ)) (p q : Progress) (result : Result Asked WireFault) (depth : ℕ) (Stops : Stop → List ℕ → Type 0)
-    → Gets a b p q result (λ v. IsWire (Struct v) depth 12) (λ v asked. asked ≡ asked_by m v) Stops → IfOk result (Fits m)
+    → ReadsTree a b p q result (λ v. IsWire (Struct v) depth 12) (λ v asked. asked ≡ asked_by m v) Stops → IfOk result (Fits m)
 read_fits m a b p q (Ok asked) depth Stops h = subst (Fits m) (sym h.holds.2) (asked_fits m h.holds.0)
 read_fits m a b p q (Err e) depth Stops h = tt
 

@@ -6,7 +6,7 @@ ghost use Rattle.cat_types.specs.declared.replies.Reply.TheVariants.{Names};
 ghost use Rattle.ms_calls.specs.Asked.{CameAs, IfClient, IfPlain, asked_by, asked_of, server_name};
 ghost use Rattle.ms_calls.specs.Methods.{method_named};
 ghost use Rattle.ms_calls.specs.Replies.{CanReply};
-ghost use Rattle.ms_structs.specs.Getting.{Gets};
+ghost use Rattle.ms_structs.specs.Getting.{ReadsTree};
 ghost use Rattle.thrift_binary.specs.Codes.{struct_code};
 ghost use Rattle.thrift_binary.specs.Tree.{Struct};
 ghost use Rattle.thrift_binary.specs.Wire.{IsWire, StopsWire};
@@ -32,7 +32,7 @@ pub fn asked<S: Source>(
     ensures later { S.faults reader.old.source.now ≤ S.faults reader.new.source.now }
     ensures cause { reader.old.progress.fault ≡ None → IsErrOf result WireFault.ReadFault → Rose (S.faults reader.old.source.now) (S.faults reader.new.source.now) }
     ensures stays { StaysBut WireFault.ReadFault result (S.faults reader.old.source.now) (S.faults reader.new.source.now) }
-    ensures reads { Gets (S.left reader.old.source.now) (S.left reader.new.source.now) reader.old.progress reader.new.progress result (λ v. IsWire (Struct v) reader.old.progress.room struct_code) (λ v asked. asked ≡ asked_of head.now.name v) (StopsWire reader.old.progress.room struct_code) }
+    ensures reads { ReadsTree (S.left reader.old.source.now) (S.left reader.new.source.now) reader.old.progress reader.new.progress result (λ v. IsWire (Struct v) reader.old.progress.room struct_code) (λ v asked. asked ≡ asked_of head.now.name v) (StopsWire reader.old.progress.room struct_code) }
     ensures unspent { OnOk result (reader.new.progress.fault ≡ None) }
     ensures plain { IfOk result (λ asked. IfPlain asked (CanReply (method_named head.now.name))) }
     ensures client { IfOk result (λ asked. IfClient asked (CameAs (method_named head.now.name))) }
@@ -51,7 +51,7 @@ pub fn asked_by<S: Source>(
     ensures later { S.faults reader.old.source.now ≤ S.faults reader.new.source.now }
     ensures cause { reader.old.progress.fault ≡ None → IsErrOf result WireFault.ReadFault → Rose (S.faults reader.old.source.now) (S.faults reader.new.source.now) }
     ensures stays { StaysBut WireFault.ReadFault result (S.faults reader.old.source.now) (S.faults reader.new.source.now) }
-    ensures reads { Gets (S.left reader.old.source.now) (S.left reader.new.source.now) reader.old.progress reader.new.progress result (λ v. IsWire (Struct v) reader.old.progress.room struct_code) (λ v asked. asked ≡ asked_by method v) (StopsWire reader.old.progress.room struct_code) }
+    ensures reads { ReadsTree (S.left reader.old.source.now) (S.left reader.new.source.now) reader.old.progress reader.new.progress result (λ v. IsWire (Struct v) reader.old.progress.room struct_code) (λ v asked. asked ≡ asked_by method v) (StopsWire reader.old.progress.room struct_code) }
     ensures unspent { OnOk result (reader.new.progress.fault ≡ None) }
     ensures plain { IfOk result (λ asked. IfPlain asked (CanReply method)) }
     ensures client { IfOk result (λ asked. IfClient asked (CameAs method)) }
@@ -69,7 +69,7 @@ fn read_asked<S: Source>(
     ensures later { S.faults reader.old.source.now ≤ S.faults reader.new.source.now }
     ensures cause { reader.old.progress.fault ≡ None → IsErrOf result WireFault.ReadFault → Rose (S.faults reader.old.source.now) (S.faults reader.new.source.now) }
     ensures stays { StaysBut WireFault.ReadFault result (S.faults reader.old.source.now) (S.faults reader.new.source.now) }
-    ensures reads { Gets (S.left reader.old.source.now) (S.left reader.new.source.now) reader.old.progress reader.new.progress result (λ v. IsWire (Struct v) reader.old.progress.room struct_code) (λ v asked. asked ≡ asked_by method v) (StopsWire reader.old.progress.room struct_code) }
+    ensures reads { ReadsTree (S.left reader.old.source.now) (S.left reader.new.source.now) reader.old.progress reader.new.progress result (λ v. IsWire (Struct v) reader.old.progress.room struct_code) (λ v asked. asked ≡ asked_by method v) (StopsWire reader.old.progress.room struct_code) }
 {
     match method {
         None => skip_arguments(reader, Asked::Unknown),
@@ -101,7 +101,7 @@ fn skip_arguments<S: Source>(
     ensures later { S.faults reader.old.source.now ≤ S.faults reader.new.source.now }
     ensures cause { reader.old.progress.fault ≡ None → IsErrOf result WireFault.ReadFault → Rose (S.faults reader.old.source.now) (S.faults reader.new.source.now) }
     ensures stays { StaysBut WireFault.ReadFault result (S.faults reader.old.source.now) (S.faults reader.new.source.now) }
-    ensures reads { Gets (S.left reader.old.source.now) (S.left reader.new.source.now) reader.old.progress reader.new.progress result (λ v. IsWire (Struct v) reader.old.progress.room struct_code) (λ _ it. it ≡ asked) (StopsWire reader.old.progress.room struct_code) }
+    ensures reads { ReadsTree (S.left reader.old.source.now) (S.left reader.new.source.now) reader.old.progress reader.new.progress result (λ v. IsWire (Struct v) reader.old.progress.room struct_code) (λ _ it. it ≡ asked) (StopsWire reader.old.progress.room struct_code) }
 {
     skip_field(reader, type_code::STRUCT)?;
     Ok(asked)
@@ -116,7 +116,7 @@ fn ask_server_name<S: Source>(
     ensures later { S.faults reader.old.source.now ≤ S.faults reader.new.source.now }
     ensures cause { reader.old.progress.fault ≡ None → IsErrOf result WireFault.ReadFault → Rose (S.faults reader.old.source.now) (S.faults reader.new.source.now) }
     ensures stays { StaysBut WireFault.ReadFault result (S.faults reader.old.source.now) (S.faults reader.new.source.now) }
-    ensures reads { Gets (S.left reader.old.source.now) (S.left reader.new.source.now) reader.old.progress reader.new.progress result (λ v. IsWire (Struct v) reader.old.progress.room struct_code) (λ _ asked. asked ≡ Asked.Plain (Names (server_name ∷ []))) (StopsWire reader.old.progress.room struct_code) }
+    ensures reads { ReadsTree (S.left reader.old.source.now) (S.left reader.new.source.now) reader.old.progress reader.new.progress result (λ v. IsWire (Struct v) reader.old.progress.room struct_code) (λ _ asked. asked ≡ Asked.Plain (Names (server_name ∷ []))) (StopsWire reader.old.progress.room struct_code) }
 {
     skip_field(reader, type_code::STRUCT)?;
     match server_name(alloc) {

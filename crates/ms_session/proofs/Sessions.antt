@@ -16,7 +16,7 @@ use Rattle.thrift_binary.specs.Taking.{Stop, Cut, Tells, Took, fresh, room_at}
 use Rattle.thrift_binary.proofs.Reading.{Took-place, Took-weaker}
 use Rattle.ms_calls.specs.declared.request.Asked.{Asked}
 use Rattle.ms_calls.specs.declared.request.Asked.TheVariants as ask
-use Rattle.ms_structs.specs.Getting.{Begun, Gets}
+use Rattle.ms_structs.specs.Getting.{Begun, ReadsTree}
 use Rattle.ms_session.specs.Requests.{IsNext, SaysRequest, asks}
 use Rattle.ms_session.specs.Session.{Interrupted, IsPart, IsShutdown, Met, Served, Session, end_of_fault}
 use Rattle.ms_session.specs.Turns.{AnswersBy, Begins, Carried, Due, Files, IsTurn, Replied, Replies, Turn, replies_of}
@@ -173,7 +173,7 @@ part bytes (inr (Some m, is)) = inr (m, is)
 
 -- the session ends by a fault of the reader
 pub faulted : (old met : Met) (left : Option (List ℕ)) (p q : Progress) (xs : List Entry) (e : WireFault) → SoFar old met p.place xs → p.fault ≡ None → IsInside p e
-    → Gets {T = Option Request} met.left left (fresh p) q (Err e) IsNext SaysRequest (StopsMessage Asks) → Session old (later met left) xs (end_of_fault e)
+    → ReadsTree {T = Option Request} met.left left (fresh p) q (Err e) IsNext SaysRequest (StopsMessage Asks) → Session old (later met left) xs (end_of_fault e)
 faulted old met left p q xs e so_far unspent inside (inl (inl h)) = stopped old met left p xs h.bytes h.stop e so_far unspent inside h.holds h.tells
 faulted old met left p q xs e so_far unspent inside (inl (inr again)) = let is : None ≡ Some e = sym unspent ∙ again.before in absurd cc
 faulted old met left p q xs e so_far unspent inside (inr h) =

@@ -3,7 +3,7 @@
 ghost use Rattle.std.specs.Prelude.{◌≡◌, ◌<◌, ◌≤◌, ◌↔◌, None, IfErr, IfNone, IfOk, IfSome, IsErrOf, IsTrue, OnSome};
 ghost use Rattle.std.specs.Io.KnownBytes.{IsAtEnd};
 ghost use Rattle.hms_outside.specs.Causes.{Rose, StaysBut};
-ghost use Rattle.ms_structs.specs.Getting.{Gets};
+ghost use Rattle.ms_structs.specs.Getting.{ReadsTree};
 ghost use Rattle.thrift_binary.specs.Messages.{Asks, StopsMessage};
 ghost use Rattle.thrift_binary.specs.Openings.{IsInside};
 ghost use Rattle.thrift_binary.specs.Taking.{fresh};
@@ -41,7 +41,7 @@ pub fn next_request<S: Source>(
     ensures later { S.faults reader.old.source.now ≤ S.faults reader.new.source.now }
     ensures cause { reader.old.progress.fault ≡ None → IsErrOf result WireFault.ReadFault → Rose (S.faults reader.old.source.now) (S.faults reader.new.source.now) }
     ensures stays { StaysBut WireFault.ReadFault result (S.faults reader.old.source.now) (S.faults reader.new.source.now) }
-    ensures reads { Gets (S.left reader.old.source.now) (S.left reader.new.source.now) (fresh reader.old.progress) reader.new.progress result IsNext SaysRequest (StopsMessage Asks) }
+    ensures reads { ReadsTree (S.left reader.old.source.now) (S.left reader.new.source.now) (fresh reader.old.progress) reader.new.progress result IsNext SaysRequest (StopsMessage Asks) }
     ensures end { IfOk result (λ request. IfNone request (IsAtEnd (S.left reader.new.source.now))) }
     ensures inside { IfErr result (IsInside reader.old.progress) }
     ensures forward { IfOk result (λ request. OnSome request (reader.old.progress.place < reader.new.progress.place)) }

@@ -10,38 +10,38 @@ use Rattle.thrift_binary.specs.declared.progress.Progress.{Progress}
 use Rattle.thrift_binary.specs.declared.fault.WireFault.TheVariants.{NoMemory}
 use Rattle.thrift_binary.specs.Taking.{Stop, Large, moved, advanced, opened, closed, Took, Tells, Halted, Opens, Reads}
 use Rattle.thrift_binary.specs.Wire.{IsNested, StopsWire}
-use Rattle.ms_structs.specs.Getting.{Begun, Gets, Refused}
+use Rattle.ms_structs.specs.Getting.{Begun, ReadsTree, MemoryRefused}
 use Rattle.thrift_binary.proofs.Reading.{Faulted, Took-weaker, Took-room, Took-place, Took-limit, Took-unspent, moved-zero, tells_behind, fault_behind, fault_again}
 
 -- how a value that is read and kept fails: with a fault that is told at one of its stops, or for want of memory where it was begun
 abbrev pub Fails : {W : Type 0} → Option (List ℕ) → Option (List ℕ) → Progress → Progress → WireFault → (W → List ℕ → Type 0) → (Stop → List ℕ → Type 0) → Type 0
-Fails a b p q e Is Q = Faulted a b p q e Q ⊎ Refused a b p q e (Begun Is Q)
+Fails a b p q e Is Q = Faulted a b p q e Q ⊎ MemoryRefused a b p q e (Begun Is Q)
 
 -- what was read is kept
-pub gets : {W T : Type 0} (a b : Option (List ℕ)) (p q : Progress) (r : Result T WireFault) (Is : W → List ℕ → Type 0) (Says : W → T → Type 0) (Q : Stop → List ℕ → Type 0) → Reads a b p q r (λ v bytes. (w : W) × Is w bytes × Says w v) Q → Gets a b p q r Is Says Q
+pub gets : {W T : Type 0} (a b : Option (List ℕ)) (p q : Progress) (r : Result T WireFault) (Is : W → List ℕ → Type 0) (Says : W → T → Type 0) (Q : Stop → List ℕ → Type 0) → Reads a b p q r (λ v bytes. (w : W) × Is w bytes × Says w v) Q → ReadsTree a b p q r Is Says Q
 gets a b p q (Ok v) Is Says Q reads = reads
 gets a b p q (Err e) Is Says Q reads = inl reads
 
 -- what was skipped says nothing
-pub gets_skipped : {W T : Type 0} (a b : Option (List ℕ)) (p q : Progress) (r : Result T WireFault) (Is : W → List ℕ → Type 0) (Q : Stop → List ℕ → Type 0) → Reads a b p q r (λ _ bytes. (w : W) × Is w bytes) Q → Gets a b p q r Is (λ _ _. ⊤) Q
+pub gets_skipped : {W T : Type 0} (a b : Option (List ℕ)) (p q : Progress) (r : Result T WireFault) (Is : W → List ℕ → Type 0) (Q : Stop → List ℕ → Type 0) → Reads a b p q r (λ _ bytes. (w : W) × Is w bytes) Q → ReadsTree a b p q r Is (λ _ _. ⊤) Q
 gets_skipped {W} a b p q (Ok v) Is Q reads = Took-weaker a b p q (λ bytes. (w : W) × Is w bytes) (λ bytes. (w : W) × Is w bytes × ⊤) (λ bytes h. (h.0, h.1, tt)) reads
 gets_skipped a b p q (Err e) Is Q reads = inl reads
 
 -- the same bytes say something else too
-pub gets_weaker : {W T : Type 0} (a b : Option (List ℕ)) (p q : Progress) (r : Result T WireFault) (Is : W → List ℕ → Type 0) (Says Says' : W → T → Type 0) (Q : Stop → List ℕ → Type 0) → ((w : W) (v : T) → Says w v → Says' w v) → Gets a b p q r Is Says Q → Gets a b p q r Is Says' Q
+pub gets_weaker : {W T : Type 0} (a b : Option (List ℕ)) (p q : Progress) (r : Result T WireFault) (Is : W → List ℕ → Type 0) (Says Says' : W → T → Type 0) (Q : Stop → List ℕ → Type 0) → ((w : W) (v : T) → Says w v → Says' w v) → ReadsTree a b p q r Is Says Q → ReadsTree a b p q r Is Says' Q
 gets_weaker {W} a b p q (Ok v) Is Says Says' Q weaker h = Took-weaker a b p q (λ bytes. (w : W) × Is w bytes × Says w v) (λ bytes. (w : W) × Is w bytes × Says' w v) (λ bytes h. (h.0, h.1, weaker h.0 v h.2)) h
 gets_weaker a b p q (Err e) Is Says Says' Q weaker (inl h) = inl h
 gets_weaker a b p q (Err e) Is Says Says' Q weaker (inr h) = inr h
 
 -- a reader that got a value has no fault
-pub gets_unspent : {W T : Type 0} (a b : Option (List ℕ)) (p q : Progress) (r : Result T WireFault) (Is : W → List ℕ → Type 0) (Says : W → T → Type 0) (Q : Stop → List ℕ → Type 0) → Gets a b p q r Is Says Q → OnOk r (q.fault ≡ None)
+pub gets_unspent : {W T : Type 0} (a b : Option (List ℕ)) (p q : Progress) (r : Result T WireFault) (Is : W → List ℕ → Type 0) (Says : W → T → Type 0) (Q : Stop → List ℕ → Type 0) → ReadsTree a b p q r Is Says Q → OnOk r (q.fault ≡ None)
 gets_unspent {W} a b p q (Ok v) Is Says Q h = Took-unspent a b p q (λ bytes. (w : W) × Is w bytes × Says w v) h
 gets_unspent a b p q (Err e) Is Says Q h = tt
 
 -- ---- bytes that begin a tree
 
 -- memory was refused at bytes that have another property too
-refused_weaker : (a b : Option (List ℕ)) (p q : Progress) (e : WireFault) (P P' : List ℕ → Type 0) → ((bytes : List ℕ) → P bytes → P' bytes) → Refused a b p q e P → Refused a b p q e P'
+refused_weaker : (a b : Option (List ℕ)) (p q : Progress) (e : WireFault) (P P' : List ℕ → Type 0) → ((bytes : List ℕ) → P bytes → P' bytes) → MemoryRefused a b p q e P → MemoryRefused a b p q e P'
 refused_weaker a b p q e P P' weaker h = record { bytes = h.bytes; consumed = h.consumed; unspent = h.unspent; within = h.within; memory = h.memory; spent = h.spent; holds = weaker h.bytes h.holds }
 
 -- what begins a tree of one kind begins one of another, where its stops are stops of that, and its trees begin one of that
@@ -58,7 +58,7 @@ pub fails_as : {V W : Type 0} (a b : Option (List ℕ)) (p q : Progress) (e : Wi
 fails_as a b p q e Is Q Whole R stops whole (inl h) = inl (fault_again a b p q e Q R stops h)
 fails_as a b p q e Is Q Whole R stops whole (inr h) = inr (refused_weaker a b p q e (Begun Is Q) (Begun Whole R) (begun_as Is Q Whole R stops whole) h)
 
-refused_behind : (a b c : Option (List ℕ)) (p q r : Progress) (e : WireFault) (P B C : List ℕ → Type 0) → ((front rest : List ℕ) → P front → B rest → C (front ++ rest)) → Took a b p q P → Refused b c q r e B → Refused a c p r e C
+refused_behind : (a b c : Option (List ℕ)) (p q r : Progress) (e : WireFault) (P B C : List ℕ → Type 0) → ((front rest : List ℕ) → P front → B rest → C (front ++ rest)) → Took a b p q P → MemoryRefused b c q r e B → MemoryRefused a c p r e C
 refused_behind a b c p q r e P B C joined first h = record {
   bytes = first.bytes ++ h.bytes;
   consumed = Consumes-trans a b c first.bytes h.bytes first.consumed h.consumed;
@@ -135,7 +135,7 @@ nested_halted a b c p q r e Q R weaker o h = record {
   tells = nested_tells a b c p.place p.limit h.bytes h.stop e o.0 (subst (λ x. Tells b c x.place x.limit h.bytes h.stop e) o.3 h.tells);
 }
 
-nested_refused : (a b c : Option (List ℕ)) (p q r : Progress) (e : WireFault) (B C : List ℕ → Type 0) → ((bytes : List ℕ) → B bytes → C bytes) → Opened a b p q → Refused b c q r e B → Refused a c p r e C
+nested_refused : (a b c : Option (List ℕ)) (p q r : Progress) (e : WireFault) (B C : List ℕ → Type 0) → ((bytes : List ℕ) → B bytes → C bytes) → Opened a b p q → MemoryRefused b c q r e B → MemoryRefused a c p r e C
 nested_refused a b c p q r e B C weaker o h =
     let place : q.place ≡ p.place = ap (λ (x : Progress). x.place) o.3 in
     let limit : q.limit ≡ p.limit = ap (λ (x : Progress). x.limit) o.3 in

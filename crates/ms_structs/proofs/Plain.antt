@@ -10,7 +10,7 @@ use Rattle.thrift_binary.specs.declared.progress.Progress.{Progress}
 use Rattle.thrift_binary.specs.Taking.{Stop}
 use Rattle.thrift_binary.specs.Tree.{Wire, Flag, Number, Bytes}
 use Rattle.thrift_binary.specs.Wire.{IsFlag, IsInt, IsLong, IsText, IsWire, StopsPlain, StopsShort, StopsString, StopsWire}
-use Rattle.ms_structs.specs.Getting.{Gets}
+use Rattle.ms_structs.specs.Getting.{ReadsTree}
 use Rattle.ms_structs.specs.Slots.{typed}
 use Rattle.ms_structs.specs.Values.{text_of, flag_of, number_of}
 use Rattle.ms_structs.proofs.Getting.{gets_weaker}
@@ -55,7 +55,7 @@ bad_text_read depth bytes h = let e : is_utf8 h.0 ≡ false = not_utf8 h.0 (is_u
 typed_same : {T : Type 0} (code ty : ℕ) (means : Wire → Got T) (w : Wire) → ty ≡ code → typed code means ty w ≡ means w
 typed_same code ty means w same = rw (same, eq-eqb code code refl) refl
 
-pub typed_read : {T : Type 0} (a b : Option (List ℕ)) (p q : Progress) (r : Result (Got T) WireFault) (code ty : ℕ) (means : Wire → Got T) → ty ≡ code → Gets a b p q r (λ w. IsWire w p.room code) (λ w got. got ≡ means w) (StopsWire p.room code) → Gets a b p q r (λ w. IsWire w p.room ty) (λ w got. got ≡ typed code means ty w) (StopsWire p.room ty)
+pub typed_read : {T : Type 0} (a b : Option (List ℕ)) (p q : Progress) (r : Result (Got T) WireFault) (code ty : ℕ) (means : Wire → Got T) → ty ≡ code → ReadsTree a b p q r (λ w. IsWire w p.room code) (λ w got. got ≡ means w) (StopsWire p.room code) → ReadsTree a b p q r (λ w. IsWire w p.room ty) (λ w got. got ≡ typed code means ty w) (StopsWire p.room ty)
 typed_read {T} a b p q r code ty means same h =
     let read = gets_weaker a b p q r (λ w. IsWire w p.room code) (λ w (got : Got T). got ≡ means w) (λ w got. got ≡ typed code means ty w) (StopsWire p.room code) (λ w got is. is ∙ sym (typed_same code ty means w same)) h in
-    subst (λ n. Gets a b p q r (λ w. IsWire w p.room n) (λ w (got : Got T). got ≡ typed code means ty w) (StopsWire p.room n)) (sym same) read
+    subst (λ n. ReadsTree a b p q r (λ w. IsWire w p.room n) (λ w (got : Got T). got ≡ typed code means ty w) (StopsWire p.room n)) (sym same) read

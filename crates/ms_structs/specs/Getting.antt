@@ -17,7 +17,7 @@ abbrev pub Begun : {W : Type 0} → (W → List ℕ → Type 0) → (Stop → Li
 Begun {W} Is Stopped bytes = ((stop : Stop) × Stopped stop bytes) ⊎ ((w : W) × Is w bytes)
 
 -- Some bytes with this property were taken, and there was no memory to keep what they say: the reader is spent.
-pub record Refused (left left' : Option (List ℕ)) (old new : Progress) (fault : WireFault) (P : List ℕ → Type 0) : Type 0 where
+pub record MemoryRefused (left left' : Option (List ℕ)) (old new : Progress) (fault : WireFault) (P : List ℕ → Type 0) : Type 0 where
   pub bytes : List ℕ
   pub consumed : Consumes left left' bytes
   pub unspent : old.fault ≡ None
@@ -27,9 +27,9 @@ pub record Refused (left left' : Option (List ℕ)) (old new : Progress) (fault 
   pub holds : P bytes
 
 -- As `Reads`, where `Is` tells what spells a tree, and `Says` what the tree says; but memory may be refused at any byte. Then what was taken begins a tree: it is a front of one, or the whole.
-abbrev pub Gets : {W T : Type 0} → Option (List ℕ) → Option (List ℕ) → Progress → Progress → Result T WireFault → (W → List ℕ → Type 0) → (W → T → Type 0) → (Stop → List ℕ → Type 0) → Type 0
-Gets {W} left left' old new (Ok value) Is Says Stopped = Took left left' old new (λ bytes. (w : W) × Is w bytes × Says w value)
-Gets {W} {T} left left' old new (Err fault) Is Says Stopped = Reads {T = T} left left' old new (Err fault) (λ value bytes. (w : W) × Is w bytes × Says w value) Stopped ⊎ Refused left left' old new fault (Begun Is Stopped)
+abbrev pub ReadsTree : {W T : Type 0} → Option (List ℕ) → Option (List ℕ) → Progress → Progress → Result T WireFault → (W → List ℕ → Type 0) → (W → T → Type 0) → (Stop → List ℕ → Type 0) → Type 0
+ReadsTree {W} left left' old new (Ok value) Is Says Stopped = Took left left' old new (λ bytes. (w : W) × Is w bytes × Says w value)
+ReadsTree {W} {T} left left' old new (Err fault) Is Says Stopped = Reads {T = T} left left' old new (Err fault) (λ value bytes. (w : W) × Is w bytes × Says w value) Stopped ⊎ MemoryRefused left left' old new fault (Begun Is Stopped)
 
 -- What a reading of a struct by itself answers: what its fields make, or that they make nothing, since a text that counts isn't UTF-8; then the struct was read to its end. Where memory is refused it was begun, or read to its end.
 abbrev pub Makes : {T : Type 0} → Option (List ℕ) → Option (List ℕ) → Progress → Progress → Result T StructFault → (Fields → Option T) → Type 0
@@ -37,4 +37,4 @@ Makes left left' old new (Ok value) made = Took left left' old new (λ bytes. (v
 Makes left left' old new (Err BadText) made = Took left left' old new (λ bytes. (v : Fields) × IsWire (Struct v) old.room struct_code bytes × (made v ≡ None))
 Makes {T = T} left left' old new (Err (told.Wire fault)) made =
     Reads {T = T} left left' old new (Err fault) (λ _ _. ⊤) (StopsWire old.room struct_code)
-    ⊎ Refused left left' old new fault (Begun (λ v. IsWire (Struct v) old.room struct_code) (StopsWire old.room struct_code))
+    ⊎ MemoryRefused left left' old new fault (Begun (λ v. IsWire (Struct v) old.room struct_code) (StopsWire old.room struct_code))

@@ -2,7 +2,7 @@
 
 ghost use Rattle.std.specs.Prelude.{◌≡◌, ℕ, ◌≤◌, None, IsErrOf, ⊤};
 ghost use Rattle.hms_outside.specs.Causes.{Rose, StaysBut};
-ghost use Rattle.ms_structs.specs.Getting.{Gets};
+ghost use Rattle.ms_structs.specs.Getting.{ReadsTree};
 ghost use Rattle.thrift_binary.specs.Codes.{bool_code, i32_code, i64_code, text_code};
 ghost use Rattle.thrift_binary.specs.Tree.{Wire};
 ghost use Rattle.thrift_binary.specs.Wire.{IsCode, IsWire, StopsWire};
@@ -39,7 +39,7 @@ pub trait FromWire {
         ensures later { S.faults reader.old.source.now ≤ S.faults reader.new.source.now }
         ensures cause { reader.old.progress.fault ≡ None → IsErrOf result WireFault.ReadFault → Rose (S.faults reader.old.source.now) (S.faults reader.new.source.now) }
         ensures stays { StaysBut WireFault.ReadFault result (S.faults reader.old.source.now) (S.faults reader.new.source.now) }
-        ensures reads { Gets (S.left reader.old.source.now) (S.left reader.new.source.now) reader.old.progress reader.new.progress result (λ w. IsWire w reader.old.progress.room CODE) (λ w got. got ≡ means w) (StopsWire reader.old.progress.room CODE) };
+        ensures reads { ReadsTree (S.left reader.old.source.now) (S.left reader.new.source.now) reader.old.progress reader.new.progress result (λ w. IsWire w reader.old.progress.room CODE) (λ w got. got ≡ means w) (StopsWire reader.old.progress.room CODE) };
 }
 
 /// Reads a value of the type with this code, or skips it where a `T` has another code.
@@ -53,7 +53,7 @@ pub fn read_typed<T: FromWire, S: Source>(
     ensures later { S.faults reader.old.source.now ≤ S.faults reader.new.source.now }
     ensures cause { reader.old.progress.fault ≡ None → IsErrOf result WireFault.ReadFault → Rose (S.faults reader.old.source.now) (S.faults reader.new.source.now) }
     ensures stays { StaysBut WireFault.ReadFault result (S.faults reader.old.source.now) (S.faults reader.new.source.now) }
-    ensures reads { Gets (S.left reader.old.source.now) (S.left reader.new.source.now) reader.old.progress reader.new.progress result (λ w. IsWire w reader.old.progress.room ty) (λ w got. got ≡ typed T.CODE T.means ty w) (StopsWire reader.old.progress.room ty) }
+    ensures reads { ReadsTree (S.left reader.old.source.now) (S.left reader.new.source.now) reader.old.progress reader.new.progress result (λ w. IsWire w reader.old.progress.room ty) (λ w got. got ≡ typed T.CODE T.means ty w) (StopsWire reader.old.progress.room ty) }
 {
     if ty == T::CODE {
         return T::read(alloc, reader);
@@ -69,7 +69,7 @@ pub fn skip_field<S: Source>(reader: &mut WireReader<'_, S>, ty: u8) -> Result<(
     ensures later { S.faults reader.old.source.now ≤ S.faults reader.new.source.now }
     ensures cause { reader.old.progress.fault ≡ None → IsErrOf result WireFault.ReadFault → Rose (S.faults reader.old.source.now) (S.faults reader.new.source.now) }
     ensures stays { StaysBut WireFault.ReadFault result (S.faults reader.old.source.now) (S.faults reader.new.source.now) }
-    ensures reads { Gets (S.left reader.old.source.now) (S.left reader.new.source.now) reader.old.progress reader.new.progress result (λ w. IsWire w reader.old.progress.room ty) (λ _ _. ⊤) (StopsWire reader.old.progress.room ty) }
+    ensures reads { ReadsTree (S.left reader.old.source.now) (S.left reader.new.source.now) reader.old.progress reader.new.progress result (λ w. IsWire w reader.old.progress.room ty) (λ _ _. ⊤) (StopsWire reader.old.progress.room ty) }
 {
     reader.skip(ty)
 }
@@ -87,7 +87,7 @@ impl<T: FromWire<Value = T> + Drop> Got<T> {
         ensures later { S.faults reader.old.source.now ≤ S.faults reader.new.source.now }
         ensures cause { reader.old.progress.fault ≡ None → IsErrOf result WireFault.ReadFault → Rose (S.faults reader.old.source.now) (S.faults reader.new.source.now) }
         ensures stays { StaysBut WireFault.ReadFault result (S.faults reader.old.source.now) (S.faults reader.new.source.now) }
-        ensures reads { Gets (S.left reader.old.source.now) (S.left reader.new.source.now) reader.old.progress reader.new.progress result (λ w. IsWire w reader.old.progress.room ty) (λ w _. self.new ≡ over (typed T.CODE T.means ty w) self.old) (StopsWire reader.old.progress.room ty) }
+        ensures reads { ReadsTree (S.left reader.old.source.now) (S.left reader.new.source.now) reader.old.progress reader.new.progress result (λ w. IsWire w reader.old.progress.room ty) (λ w _. self.new ≡ over (typed T.CODE T.means ty w) self.old) (StopsWire reader.old.progress.room ty) }
     {
         self.take_as::<T, S>(alloc, reader, ty)
     }
@@ -107,7 +107,7 @@ impl<V: Drop> Got<V> {
         ensures later { S.faults reader.old.source.now ≤ S.faults reader.new.source.now }
         ensures cause { reader.old.progress.fault ≡ None → IsErrOf result WireFault.ReadFault → Rose (S.faults reader.old.source.now) (S.faults reader.new.source.now) }
         ensures stays { StaysBut WireFault.ReadFault result (S.faults reader.old.source.now) (S.faults reader.new.source.now) }
-        ensures reads { Gets (S.left reader.old.source.now) (S.left reader.new.source.now) reader.old.progress reader.new.progress result (λ w. IsWire w reader.old.progress.room ty) (λ w _. self.new ≡ over (typed T.CODE T.means ty w) self.old) (StopsWire reader.old.progress.room ty) }
+        ensures reads { ReadsTree (S.left reader.old.source.now) (S.left reader.new.source.now) reader.old.progress reader.new.progress result (λ w. IsWire w reader.old.progress.room ty) (λ w _. self.new ≡ over (typed T.CODE T.means ty w) self.old) (StopsWire reader.old.progress.room ty) }
     {
         self.put(read_typed::<T, S>(alloc, reader, ty)?);
         Ok(())

@@ -2,7 +2,7 @@
 
 ghost use Rattle.std.specs.Prelude.{◌≡◌, ◌≢◌, ◌==◌, ◌||◌, ℕ, ◌≤◌, if◌then◌else◌, None, Some, [], IsErrOf, OnOk};
 ghost use Rattle.hms_outside.specs.Causes.{Rose, StaysBut};
-ghost use Rattle.ms_structs.specs.Getting.{Gets};
+ghost use Rattle.ms_structs.specs.Getting.{ReadsTree};
 ghost use Rattle.thrift_binary.specs.Codes.{list_code};
 ghost use Rattle.thrift_binary.specs.Tree.{Elements, Wire, elements_count};
 ghost use Rattle.thrift_binary.specs.Wire.{AreElements, IsElementType, StopsElements};
@@ -67,7 +67,7 @@ fn read_items<T: FromWire, S: Source>(
     ensures later { S.faults reader.old.source.now ≤ S.faults reader.new.source.now }
     ensures cause { reader.old.progress.fault ≡ None → IsErrOf result WireFault.ReadFault → Rose (S.faults reader.old.source.now) (S.faults reader.new.source.now) }
     ensures stays { StaysBut WireFault.ReadFault result (S.faults reader.old.source.now) (S.faults reader.new.source.now) }
-    ensures reads { Gets (S.left reader.old.source.now) (S.left reader.new.source.now) reader.old.progress reader.new.progress result (λ es bytes. AreElements es reader.old.progress.room ty bytes × (elements_count es ≡ count)) (λ es items. items ≡ fold_elements (λ so w. with_item so (typed T.CODE T.means ty w)) (Some []) es) (StopsElements reader.old.progress.room ty count) }
+    ensures reads { ReadsTree (S.left reader.old.source.now) (S.left reader.new.source.now) reader.old.progress reader.new.progress result (λ es bytes. AreElements es reader.old.progress.room ty bytes × (elements_count es ≡ count)) (λ es items. items ≡ fold_elements (λ so w. with_item so (typed T.CODE T.means ty w)) (Some []) es) (StopsElements reader.old.progress.room ty count) }
 {
     let mut items = Some(ListOf::new(alloc));
     for _ in 0..count {

@@ -2,7 +2,7 @@
 
 ghost use Rattle.std.specs.Prelude.{◌≡◌, ◌≢◌, ◌==◌, ◌||◌, ◌&&◌, ℕ, ◌≤◌, if◌then◌else◌, None, Some, IsErrOf, OnOk};
 ghost use Rattle.hms_outside.specs.Causes.{Rose, StaysBut};
-ghost use Rattle.ms_structs.specs.Getting.{Gets};
+ghost use Rattle.ms_structs.specs.Getting.{ReadsTree};
 ghost use Rattle.thrift_binary.specs.Codes.{map_code};
 ghost use Rattle.thrift_binary.specs.Tree.{Entries, Wire, entries_count};
 ghost use Rattle.thrift_binary.specs.Wire.{AreEntries, IsCode, IsElementType, StopsEntries};
@@ -79,7 +79,7 @@ fn read_pairs<K: FromWire<Value = K> + Ord + Drop, V: FromWire, S: Source>(
     ensures later { S.faults reader.old.source.now ≤ S.faults reader.new.source.now }
     ensures cause { reader.old.progress.fault ≡ None → IsErrOf result WireFault.ReadFault → Rose (S.faults reader.old.source.now) (S.faults reader.new.source.now) }
     ensures stays { StaysBut WireFault.ReadFault result (S.faults reader.old.source.now) (S.faults reader.new.source.now) }
-    ensures reads { Gets (S.left reader.old.source.now) (S.left reader.new.source.now) reader.old.progress reader.new.progress result (λ ps bytes. AreEntries ps reader.old.progress.room key_type value_type bytes × (entries_count ps ≡ count)) (λ ps pairs. pairs ≡ fold_entries (λ so k w. with_pair K.cmp so (typed K.CODE K.means key_type k) (typed V.CODE V.means value_type w)) no_pairs ps) (StopsEntries reader.old.progress.room key_type value_type count) }
+    ensures reads { ReadsTree (S.left reader.old.source.now) (S.left reader.new.source.now) reader.old.progress reader.new.progress result (λ ps bytes. AreEntries ps reader.old.progress.room key_type value_type bytes × (entries_count ps ≡ count)) (λ ps pairs. pairs ≡ fold_entries (λ so k w. with_pair K.cmp so (typed K.CODE K.means key_type k) (typed V.CODE V.means value_type w)) no_pairs ps) (StopsEntries reader.old.progress.room key_type value_type count) }
 {
     let mut pairs = Some(PairsSoFar::new(alloc));
     for _ in 0..count {
@@ -105,7 +105,7 @@ fn read_pair<K: FromWire, V: FromWire, S: Source>(
     ensures later { S.faults reader.old.source.now ≤ S.faults reader.new.source.now }
     ensures cause { reader.old.progress.fault ≡ None → IsErrOf result WireFault.ReadFault → Rose (S.faults reader.old.source.now) (S.faults reader.new.source.now) }
     ensures stays { StaysBut WireFault.ReadFault result (S.faults reader.old.source.now) (S.faults reader.new.source.now) }
-    ensures reads { Gets (S.left reader.old.source.now) (S.left reader.new.source.now) reader.old.progress reader.new.progress result (λ (pair : Wire × Wire). IsPairOf reader.old.progress.room key_type value_type pair.0 pair.1) (λ pair got. (got.0 ≡ typed K.CODE K.means key_type pair.0) × (got.1 ≡ typed V.CODE V.means value_type pair.1)) (StopsPairOf reader.old.progress.room key_type value_type) }
+    ensures reads { ReadsTree (S.left reader.old.source.now) (S.left reader.new.source.now) reader.old.progress reader.new.progress result (λ (pair : Wire × Wire). IsPairOf reader.old.progress.room key_type value_type pair.0 pair.1) (λ pair got. (got.0 ≡ typed K.CODE K.means key_type pair.0) × (got.1 ≡ typed V.CODE V.means value_type pair.1)) (StopsPairOf reader.old.progress.room key_type value_type) }
 {
     let key = read_typed::<K, S>(alloc, reader, key_type)?;
     let value = read_typed::<V, S>(alloc, reader, value_type)?;

@@ -2,7 +2,7 @@
 
 ghost use Rattle.std.specs.Prelude.{◌≡◌, ℕ, ℤ, ◌≤◌, Option, None, IsErrOf};
 ghost use Rattle.hms_outside.specs.Causes.{Rose, StaysBut};
-ghost use Rattle.ms_structs.specs.Getting.{Gets, Makes};
+ghost use Rattle.ms_structs.specs.Getting.{ReadsTree, Makes};
 ghost use Rattle.thrift_binary.specs.Codes.{struct_code};
 ghost use Rattle.thrift_binary.specs.Tree.{Struct, Wire};
 ghost use Rattle.thrift_binary.specs.Wire.{IsCode, IsStruct, IsWire, StopsFields, StopsWire};
@@ -39,7 +39,7 @@ pub trait FieldSink: Drop {
         ensures later { S.faults reader.old.source.now ≤ S.faults reader.new.source.now }
         ensures cause { reader.old.progress.fault ≡ None → IsErrOf result WireFault.ReadFault → Rose (S.faults reader.old.source.now) (S.faults reader.new.source.now) }
         ensures stays { StaysBut WireFault.ReadFault result (S.faults reader.old.source.now) (S.faults reader.new.source.now) }
-        ensures reads { Gets (S.left reader.old.source.now) (S.left reader.new.source.now) reader.old.progress reader.new.progress result (λ w. IsWire w reader.old.progress.room ty) (λ w _. self.new ≡ set self.old ty id w) (StopsWire reader.old.progress.room ty) };
+        ensures reads { ReadsTree (S.left reader.old.source.now) (S.left reader.new.source.now) reader.old.progress reader.new.progress result (λ w. IsWire w reader.old.progress.room ty) (λ w _. self.new ≡ set self.old ty id w) (StopsWire reader.old.progress.room ty) };
 }
 
 /// Slots that make a value of the struct.
@@ -66,7 +66,7 @@ fn read_fields<F: FieldSink, S: Source>(
     ensures later { S.faults reader.old.source.now ≤ S.faults reader.new.source.now }
     ensures cause { reader.old.progress.fault ≡ None → IsErrOf result WireFault.ReadFault → Rose (S.faults reader.old.source.now) (S.faults reader.new.source.now) }
     ensures stays { StaysBut WireFault.ReadFault result (S.faults reader.old.source.now) (S.faults reader.new.source.now) }
-    ensures reads { Gets (S.left reader.old.source.now) (S.left reader.new.source.now) reader.old.progress reader.new.progress result (λ v. IsStruct reader.old.progress.room v) (λ v _. slots.new ≡ fold_fields F.set slots.old v) (StopsFields reader.old.progress.room) }
+    ensures reads { ReadsTree (S.left reader.old.source.now) (S.left reader.new.source.now) reader.old.progress reader.new.progress result (λ v. IsStruct reader.old.progress.room v) (λ v _. slots.new ≡ fold_fields F.set slots.old v) (StopsFields reader.old.progress.room) }
 {
     loop {
         match reader.field()? {
@@ -85,7 +85,7 @@ pub fn read_slots<F: FieldSink, S: Source>(
     ensures later { S.faults reader.old.source.now ≤ S.faults reader.new.source.now }
     ensures cause { reader.old.progress.fault ≡ None → IsErrOf result WireFault.ReadFault → Rose (S.faults reader.old.source.now) (S.faults reader.new.source.now) }
     ensures stays { StaysBut WireFault.ReadFault result (S.faults reader.old.source.now) (S.faults reader.new.source.now) }
-    ensures reads { Gets (S.left reader.old.source.now) (S.left reader.new.source.now) reader.old.progress reader.new.progress result (λ v. IsWire (Struct v) reader.old.progress.room struct_code) (λ v slots. slots ≡ fold_fields F.set F.none v) (StopsWire reader.old.progress.room struct_code) }
+    ensures reads { ReadsTree (S.left reader.old.source.now) (S.left reader.new.source.now) reader.old.progress reader.new.progress result (λ v. IsWire (Struct v) reader.old.progress.room struct_code) (λ v slots. slots ≡ fold_fields F.set F.none v) (StopsWire reader.old.progress.room struct_code) }
 {
     reader.open()?;
     let mut slots = F::empty();
@@ -103,7 +103,7 @@ pub fn read_struct<F: StructSink, S: Source>(
     ensures later { S.faults reader.old.source.now ≤ S.faults reader.new.source.now }
     ensures cause { reader.old.progress.fault ≡ None → IsErrOf result WireFault.ReadFault → Rose (S.faults reader.old.source.now) (S.faults reader.new.source.now) }
     ensures stays { StaysBut WireFault.ReadFault result (S.faults reader.old.source.now) (S.faults reader.new.source.now) }
-    ensures reads { Gets (S.left reader.old.source.now) (S.left reader.new.source.now) reader.old.progress reader.new.progress result (λ w. IsWire w reader.old.progress.room struct_code) (λ w got. got ≡ struct_of F.whole F.set F.none w) (StopsWire reader.old.progress.room struct_code) }
+    ensures reads { ReadsTree (S.left reader.old.source.now) (S.left reader.new.source.now) reader.old.progress reader.new.progress result (λ w. IsWire w reader.old.progress.room struct_code) (λ w got. got ≡ struct_of F.whole F.set F.none w) (StopsWire reader.old.progress.room struct_code) }
 {
     let slots = read_slots::<F, S>(alloc, reader)?;
     Ok(said_or_bad(slots.finish(alloc)))
