@@ -18,7 +18,7 @@ pub data Transition : Type 0 where
   took : Entry → Transition
   reopened : Option ℕ → ℕ → Transition
 
--- a state and the fault number at the opening, and what the store's disk had gone through by then, the newest last; a store in memory has no disk
+-- a state and the fault number at the opening, and what the store's disk had gone through by then, the newest last
 pub record Start : Type 0 where
   pub state : State
   pub fault : ℕ
@@ -119,23 +119,3 @@ events_at p (reopened a fault) = option_to_list (event_found (found_done a p.pen
 abbrev pub events_from : Point → List Transition → List Event
 events_from p [] = []
 events_from p (m ∷ ms) = events_at p m ++ events_from (next p m) ms
-
--- a store in memory: its state, and the id and base that it began with, and what it went through
-pub record Run : Type 0 where
-  pub state : State
-  pub id : List ℕ
-  pub base : ℕ
-  pub history : List Entry
-
-abbrev pub run_of : State → List ℕ → ℕ → List Entry → Run
-run_of state id base history = record { state = state; id = id; base = base; history = history }
-
-abbrev pub start_of : Run → Start
-start_of r = record { state = start r.id r.base; fault = 0; past = [] }
-
--- its history is legal, and ends in its state with no fault counted
-pub record IsRun (r : Run) : Type 0 where
-  pub legal : Legal (start_of r) r.history
-  pub state : state_after (start_of r) r.history ≡ r.state
-  pub fault : (point_after (point_of (start_of r)) (map took r.history)).fault ≡ 0
-  pub none : NoneAbove 0 r.history

@@ -135,7 +135,3 @@ MayAnswer state before caller step (answer.Reply reply) after = answer.Reply rep
 -- the state after a step that was given this answer: a refused step leaves it, any other has done what is due
 abbrev pub state_after_answer : State → ℕ → Step → Answer → State
 state_after_answer state caller step given = if is_refused given then state else (due state caller step).state
-
--- one step of a store that has no disk, and so counts no faults
-abbrev pub Takes : State → ℕ → Step → Answer → State → Type 0
-Takes old caller step given new = MayAnswer old 0 caller step given 0 × (new ≡ state_after_answer old caller step given)

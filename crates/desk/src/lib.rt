@@ -8,8 +8,6 @@ mod entries;
 mod foreign;
 mod laws;
 mod local;
-mod mem_core;
-mod mem_store;
 mod polling;
 mod script;
 
@@ -22,6 +20,5 @@ pub use laws::{
     openings_give_the_disks, steps_write_where_the_disks_change,
 };
 pub use local::LocalDesk;
-pub use mem_core::MemCore;
 pub use polling::{EVENT_LIMIT, reply_to_poll};
 pub use script::{Script, ScriptDesk};

@@ -18,7 +18,7 @@ use Rattle.catalogue.specs.Decisions.{decided_by}
 use Rattle.catalogue.specs.Rules.{first_refusal, is_named, kept_name, kept_record, lower, shown_as}
 use Rattle.catalogue.specs.declared.refusal.Refusal.TheVariants.{AlreadyExists, EventNumbersUsedUp, InvalidObject, NoSuchObject}
 use Rattle.desk.specs.History.{Entry, IsLegal, Legal, MayFollow, Point, Start, next, point_of, took}
-use Rattle.desk.specs.State.{State, MayAnswer, bars_of, reply_by}
+use Rattle.desk.specs.State.{MayAnswer, bars_of, reply_by}
 use Rattle.ms_calls.specs.declared.method.Method.{Method}
 use Rattle.ms_calls.specs.declared.method.Method.TheVariants as method
 use Rattle.ms_calls.specs.Asked.{CameAs, IsMethodOf}

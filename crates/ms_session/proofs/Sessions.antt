@@ -19,7 +19,7 @@ use Rattle.ms_calls.specs.declared.request.Asked.TheVariants as ask
 use Rattle.ms_structs.specs.Getting.{Begun, ReadsTree}
 use Rattle.ms_session.specs.Requests.{IsNext, SaysRequest, asks}
 use Rattle.ms_session.specs.Session.{Interrupted, IsPart, IsShutdown, Met, Served, Session, end_of_fault}
-use Rattle.ms_session.specs.Turns.{AnswersBy, Begins, Carried, Due, Files, IsTurn, Replied, Replies, Turn, replies_of}
+use Rattle.ms_session.specs.Turns.{AnswersBy, Begins, Carried, Due, IsTurn, Replied, Replies, Turn, replies_of}
 use Rattle.ms_session.specs.declared.end.End.TheVariants as ended
 use Rattle.ms_session.specs.declared.request.Request.{Request}
 use Rattle.ms_session.proofs.Turns.{carried_more, replied_more, replied_none}

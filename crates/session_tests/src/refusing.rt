@@ -1,50 +1,58 @@
-//! A store that has no memory.
+//! A store whose disk soon has no memory.
 
-use cat_types::{Answer, Step};
-use desk::{CallerStep, Core, Outcome};
-use http_server::Log;
-use std::marker::Model;
+ghost use Rattle.std.specs.Prelude.{[], None};
 
-/// A new store that refuses each step for want of memory.
+use crate::stores::ID;
+use engine::Engine;
+use hms_outside::{Disk, Outage};
+use std::alloc::Global;
+use std::test::Fail;
+
+/// A disk without bytes that takes so many writes and syncs more, and then has no memory for any.
 #[derive(Drop)]
-pub struct Refusing {
-    log: Log<CallerStep, Outcome>,
+pub struct Forgetful {
+    left: u8,
 }
 
-impl Model for Refusing {
-    ghost use Rattle.std.specs.Prelude.{[]};
-    ghost use Rattle.desk.specs.History.{IsRun, Run, run_of};
-    ghost use Rattle.desk.specs.State.{start};
-
-    ghost Value = { Run };
-
-    ghost view = { λ m. run_of (start [] 0) [] 0 m.log.items };
-
-    ghost invariant = { λ m. IsRun (run_of (start [] 0) [] 0 m.log.items) };
-}
-
-impl Refusing {
-    pub fn new() -> Refusing {
-        Refusing { log: Log::new() }
+impl Forgetful {
+    fn take(&mut self) -> Result<(), Outage> {
+        if self.left == 0 {
+            return Err(Outage::NoMemory);
+        }
+        self.left -= 1;
+        Ok(())
     }
 }
 
-impl Core for Refusing {
-    ghost use Rattle.desk.specs.History.{start_of};
+impl Disk for Forgetful {
+    ghost lies = { λ _. None };
 
-    ghost start = { start_of };
-
-    ghost history = { λ r. r.history };
+    ghost past = { λ _. [] };
 
     ghost faults = { λ _. 0 };
 
-    fn turn(&mut self, caller: u32, s: Step) -> Answer {
-        let asked = CallerStep { caller, step: s };
-        let told = Outcome {
-            answer: Answer::NoMemory,
-            fault: 0,
-        };
-        self.log = self.log.and(&asked, &told);
-        Answer::NoMemory
+    fn len(&mut self) -> Result<u64, Outage> {
+        Ok(0)
     }
+
+    fn read_at(&mut self, _at: u64, _buf: &mut [u8]) -> Result<usize, Outage> {
+        Ok(0)
+    }
+
+    fn write_at(&mut self, at: u64, bytes: &[u8]) -> Result<(), Outage> {
+        if bytes.len() as u64 > u64::MAX - at {
+            return Err(Outage::NoMemory);
+        }
+        self.take()
+    }
+
+    fn sync(&mut self) -> Result<(), Outage> {
+        self.take()
+    }
+}
+
+/// A new store that has memory for nothing that it is to write.
+pub fn forgetful_store(alloc: Global) -> Result<Engine<Forgetful>, Fail> {
+    let engine = Engine::create(alloc, Forgetful { left: 2 }, Forgetful { left: 0 }, ID, 0);
+    Ok(engine.ok().ok_or("no store is made")?)
 }

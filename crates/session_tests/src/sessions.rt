@@ -1,12 +1,13 @@
-//! Sessions beside the turns of others, and at a store that has no memory.
+//! Sessions beside the turns of others, and at a store whose disk has no memory.
 
 ghost use Rattle.std.specs.Prelude.{None};
 
 use crate::messages::{CALL, REPLY, put, put_exception, put_listing, put_names, put_text};
-use crate::refusing::Refusing;
-use crate::stores::{create, step};
-use desk::{Desk, Foreign, LocalDesk, MemCore, Script, ScriptDesk};
-use hms_outside::{MemClock, MemFolder, MemSink, Outage, Source};
+use crate::refusing::forgetful_store;
+use crate::stores::{create, new_store, step};
+use desk::{Desk, Foreign, LocalDesk, Script, ScriptDesk};
+use engine::Engine;
+use hms_outside::{MemClock, MemDisk, MemFolder, MemSink, Outage, Source};
 use ms_session::{End, serve_session};
 use std::alloc::{AllocError, Global};
 use std::collections::VecDeque;
@@ -55,8 +56,8 @@ fn script(alloc: Global) -> Result<Script, Fail> {
     Ok(script)
 }
 
-fn desk(alloc: Global) -> Result<ScriptDesk<MemCore>, Fail> {
-    let core = MemCore::new(alloc, [7; 16], 0)?;
+fn desk(alloc: Global) -> Result<ScriptDesk<Engine<MemDisk>>, Fail> {
+    let core = new_store(alloc, 0)?;
     Ok(ScriptDesk::new(core, script(alloc)?))
 }
 
@@ -144,14 +145,16 @@ fn calls_with_arguments_beside_foreign_turns(rt: HostRuntime) -> Result<(), Fail
     Ok(())
 }
 
-// A listing and an unknown call, and the answers where the store has no memory.
+// `B` made, an unknown call and a listing, and the answers where the store has no memory to write.
 fn refused(alloc: Global) -> Result<(Vec<u8>, Vec<u8>), AllocError> {
     let mut asked = Vec::new(alloc);
     let mut wanted = Vec::new(alloc);
-    put_listing(&mut asked)?;
+    put(&mut asked, CALL, "create_database", 3, MAKE)?;
     put(&mut asked, CALL, "x", 5, &[0])?;
-    put_exception(&mut wanted, "get_all_databases", 1, "out of memory", 6)?;
+    put_listing(&mut asked)?;
+    put_exception(&mut wanted, "create_database", 3, "out of memory", 6)?;
     put_exception(&mut wanted, "x", 5, "unknown method", 1)?;
+    put_names(&mut wanted, &["default"])?;
     Ok((asked, wanted))
 }
 
@@ -163,7 +166,7 @@ fn a_session_goes_on_where_the_store_has_no_memory(rt: HostRuntime) -> Result<()
         bytes: &asked,
         piece: 44,
     };
-    let mut desk = LocalDesk::new(Refusing::new());
+    let mut desk = LocalDesk::new(forgetful_store(alloc)?);
     let (end, sink) = session(alloc, &mut source, &mut desk);
     assert_eq!(rt; end, End::Done);
     assert_eq!(rt; sink.bytes(), wanted.as_slice());

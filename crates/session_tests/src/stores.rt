@@ -1,18 +1,30 @@
 //! The end of event numbers, and stores that are given back.
 
-ghost use Rattle.std.specs.Prelude.{◌≡◌, IfOk, None};
+ghost use Rattle.std.specs.Prelude.{◌≡◌, ◌<◌, ◌^◌, IfOk, None};
 ghost use Rattle.catalogue.specs.Polls.{poll_of};
 
 use cat_types::{Answer, Call, DbArg, DbRec, MapOf, Reply, Step, Text};
-use desk::{Core, Desk, LocalDesk, MemCore, ScriptDesk};
+use desk::{Core, Desk, LocalDesk, ScriptDesk};
+use engine::Engine;
+use hms_outside::MemDisk;
 use std::alloc::Global;
 use std::collections::VecDeque;
 use std::test::Fail;
 
-const ID: [u8; 16] = [7; 16];
+pub(crate) const ID: [u8; 16] = [7; 16];
 
 // The last number that an event may have.
 const LAST: u64 = 9_223_372_036_854_775_807;
+
+/// A new store on disks in memory, whose events are numbered from base + 1.
+pub(crate) fn new_store(alloc: Global, base: u64) -> Result<Engine<MemDisk>, Fail>
+    requires { base < 2 ^ 63 }
+{
+    let disk_a = MemDisk::new(alloc, Vec::new(alloc));
+    let disk_b = MemDisk::new(alloc, Vec::new(alloc));
+    let engine = Engine::create(alloc, disk_a, disk_b, ID, base);
+    Ok(engine.ok().ok_or("no store is made")?)
+}
 
 /// The call that creates a database with this name.
 pub(crate) fn create(alloc: Global, name: &str) -> Result<Call, Fail>
@@ -44,7 +56,7 @@ fn refusal(answer: Answer) -> u8 {
 }
 
 // Creates databases with these names, and answers the number of each refusal.
-fn refusals(alloc: Global, core: &mut MemCore, names: &str) -> Result<Vec<u8>, Fail> {
+fn refusals(alloc: Global, core: &mut Engine<MemDisk>, names: &str) -> Result<Vec<u8>, Fail> {
     let mut numbers = Vec::new(alloc);
     for name in names.split('\n') {
         let answer = core.turn(3, step(create(alloc, name)?));
@@ -72,7 +84,7 @@ fn names(alloc: Global, answer: &Answer) -> Result<String, Fail> {
 #[test]
 fn event_numbers_end(rt: HostRuntime) -> Result<(), Fail> {
     let alloc = rt.alloc();
-    let mut core = MemCore::new(alloc, ID, LAST)?;
+    let mut core = new_store(alloc, LAST)?;
     let refused = refusals(alloc, &mut core, "b")?;
     assert_eq!(rt; refused.as_slice(), [12].as_slice());
     let listed = names(alloc, &core.turn(0, list()))?;
@@ -84,7 +96,7 @@ fn event_numbers_end(rt: HostRuntime) -> Result<(), Fail> {
 #[test]
 fn the_last_event_numbers_are_given(rt: HostRuntime) -> Result<(), Fail> {
     let alloc = rt.alloc();
-    let mut core = MemCore::new(alloc, ID, LAST - 4)?;
+    let mut core = new_store(alloc, LAST - 4)?;
     let asked = "b\nB\na b\n\n_9\nzz\nz-z\nDefault\na\nlast\nmore\nb\na b";
     let refused = refusals(alloc, &mut core, asked)?;
     assert_eq!(rt;
@@ -97,7 +109,7 @@ fn the_last_event_numbers_are_given(rt: HostRuntime) -> Result<(), Fail> {
 }
 
 // The numbers of the events that a poll is answered, or 0 where it is answered otherwise.
-fn polled(alloc: Global, core: &mut MemCore, last: i64) -> Result<Vec<u64>, Fail> {
+fn polled(alloc: Global, core: &mut Engine<MemDisk>, last: i64) -> Result<Vec<u64>, Fail> {
     let call = Call::GetNextNotification { last, max: None };
     let mut numbers = Vec::new(alloc);
     match core.turn(0, step(call)) {
@@ -114,7 +126,7 @@ fn polled(alloc: Global, core: &mut MemCore, last: i64) -> Result<Vec<u64>, Fail
 #[test]
 fn the_last_events_are_polled(rt: HostRuntime) -> Result<(), Fail> {
     let alloc = rt.alloc();
-    let mut core = MemCore::new(alloc, ID, LAST - 2)?;
+    let mut core = new_store(alloc, LAST - 2)?;
     let _ = refusals(alloc, &mut core, "a\nb\nc")?;
     let all = polled(alloc, &mut core, -1)?;
     assert_eq!(rt; all.as_slice(), [LAST - 1, LAST].as_slice());
@@ -127,7 +139,7 @@ fn the_last_events_are_polled(rt: HostRuntime) -> Result<(), Fail> {
 
 #[test]
 fn the_last_number_is_told(rt: HostRuntime) -> Result<(), Fail> {
-    let mut core = MemCore::new(rt.alloc(), ID, LAST)?;
+    let mut core = new_store(rt.alloc(), LAST)?;
     let answer = core.turn(0, step(Call::GetCurrentNotificationEventId));
     assert!(rt; matches!(answer, Answer::Reply(Reply::Big(9_223_372_036_854_775_807))));
     Ok(())
@@ -136,7 +148,7 @@ fn the_last_number_is_told(rt: HostRuntime) -> Result<(), Fail> {
 #[test]
 fn stores_are_given_back(rt: HostRuntime) -> Result<(), Fail> {
     let alloc = rt.alloc();
-    let mut desk = LocalDesk::new(MemCore::new(alloc, ID, 0)?);
+    let mut desk = LocalDesk::new(new_store(alloc, 0)?);
     let _ = desk.step(step(create(alloc, "Shop")?));
     let mut desk = ScriptDesk::new(desk.into_core(), VecDeque::new(alloc));
     let listed = names(alloc, &desk.step(list()))?;
