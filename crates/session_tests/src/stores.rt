@@ -108,19 +108,23 @@ fn the_last_event_numbers_are_given(rt: HostRuntime) -> Result<(), Fail> {
     Ok(())
 }
 
-// The numbers of the events that a poll is answered, or 0 where it is answered otherwise.
-fn polled(alloc: Global, core: &mut Engine<MemDisk>, last: i64) -> Result<Vec<u64>, Fail> {
-    let call = Call::GetNextNotification { last, max: None };
+// The numbers of the events that an answer tells, or 0 where it tells none.
+fn numbers(alloc: Global, answer: &Answer) -> Result<Vec<u64>, Fail> {
     let mut numbers = Vec::new(alloc);
-    match core.turn(0, step(call)) {
-        Answer::Reply(Reply::Events(events)) => {
-            for event in events.as_slice() {
-                numbers.push(event.id)?;
-            }
+    if let Answer::Reply(Reply::Events(events)) = answer {
+        for event in events.as_slice() {
+            numbers.push(event.id)?;
         }
-        _ => numbers.push(0)?,
+    } else {
+        numbers.push(0)?;
     }
     Ok(numbers)
+}
+
+// The numbers of the events that a poll above a number is answered.
+fn polled(alloc: Global, core: &mut Engine<MemDisk>, last: i64) -> Result<Vec<u64>, Fail> {
+    let call = Call::GetNextNotification { last, max: None };
+    numbers(alloc, &core.turn(0, step(call)))
 }
 
 #[test]
@@ -141,7 +145,7 @@ fn the_last_events_are_polled(rt: HostRuntime) -> Result<(), Fail> {
 fn the_last_number_is_told(rt: HostRuntime) -> Result<(), Fail> {
     let mut core = new_store(rt.alloc(), LAST)?;
     let answer = core.turn(0, step(Call::GetCurrentNotificationEventId));
-    assert!(rt; matches!(answer, Answer::Reply(Reply::Big(9_223_372_036_854_775_807))));
+    assert!(rt; matches!(&answer, Answer::Reply(Reply::Big(9_223_372_036_854_775_807))));
     Ok(())
 }
 
