@@ -68,6 +68,8 @@ impl StructSink for NotificationRequestFields {
 }
 
 impl FromWire for NotificationRequest {
+    type Value = NotificationRequest;
+
     ghost CODE = { struct_code };
 
     const CODE: u8 = type_code::STRUCT;
