@@ -1,6 +1,6 @@
 //! Reading values off the front of bytes.
 
-ghost use Rattle.std.specs.Prelude.{◌≡◌, ◌≤◌, ◌-◌, ℕ, List, None, IfOk, length};
+ghost use Rattle.std.specs.Prelude.{◌≡◌, ◌≤◌, ◌-◌, [], ℕ, List, None, IfOk, length};
 ghost use Rattle.std.specs.Int.{w32, w64};
 ghost use Rattle.cat_values.specs.declared.list_of.TheConstants.{LIST_END};
 ghost use Rattle.change_codec.specs.Forms.{Reading, count_read, flag_read, front_read, last_key, list_read, map_read, number_read, option_read, pairs_read, rises, rising_read, signed_read, text_read, values_read};
@@ -10,7 +10,7 @@ ghost use Rattle.change_codec.specs.declared.version.Version.{Version};
 use crate::fault::Stop;
 use crate::tags::{ABSENT, FALSE, PRESENT, TRUE};
 use crate::version::Version;
-use cat_types::{LIST_END, ListOf, MapOf, TEXT_LIMIT, Text};
+use cat_types::{LIST_END, ListOf, MapOf, NoMemory, TEXT_LIMIT, Text};
 use std::alloc::Global;
 
 /// A value that can be read off the front of bytes.
@@ -160,6 +160,16 @@ impl<T: Get> Get for Option<T> {
     }
 }
 
+// For how many values of a list there is room before the first of them has come.
+const FEW: usize = 4;
+
+// A list for so many values. A short one has no room to spare: most lists of operations have one.
+fn list_for<T: Drop>(alloc: Global, count: usize) -> Result<ListOf<T>, NoMemory>
+    ensures { IfOk result (λ list. list ≡ []) }
+{
+    ListOf::from_vec(Vec::with_capacity(alloc, count.min(FEW))?)
+}
+
 // So many values, and the bytes behind them.
 fn values_of<T: Get>(
     alloc: Global,
@@ -169,7 +179,7 @@ fn values_of<T: Get>(
 ) -> Result<(ListOf<T>, &[u8]), Stop>
     ensures { Gives (λ x. (x.0, x.1.now)) result (values_read (T.read version) count bytes.now) }
 {
-    let mut values = ListOf::new(alloc);
+    let mut values = list_for(alloc, count)?;
     let mut rest = bytes;
     for _ in 0..count {
         let (value, after) = T::get(alloc, version, rest)?;

@@ -17,9 +17,10 @@ not_told s before caller after step (Reply r) may stays low is = absurd cc
 -- where no fault number is above that of the start, none was told
 none_told : (p : Point) (es : List Entry) (n : ℕ) → IsLegal p (map took es) → NoneAbove n es → n ≤ p.fault → n < 2 ^ 64 - 1 → NoStoreFault es
 none_told p [] n legal none stays low = tt
-none_told p (e ∷ es) n legal none stays low =
-    (not_told p.state p.fault e.0.caller e.1.fault e.0.step e.1.answer legal.0.1 (omega (arith, none.0, stays)) (omega (arith, legal.0.0, none.0, low, stays)),
-    none_told (next p (took e)) es n legal.1 none.1 (omega (arith, legal.0.0, stays)) low)
+none_told p (e ∷ es) n legal none stays low = (
+  not_told p.state p.fault e.0.caller e.1.fault e.0.step e.1.answer legal.0.1 (omega (arith, none.0, stays)) (omega (arith, legal.0.0, none.0, low, stays)),
+  none_told (next p (took e)) es n legal.1 none.1 (omega (arith, legal.0.0, stays)) low,
+)
 
 -- a count that didn't rise stays, and is below the last value
 did_not_rise : (before now : ℕ) → (Rose before now → ⊥) → (now ≤ before) × (now < 2 ^ 64 - 1)

@@ -78,12 +78,16 @@ pub served : (start begun : Start) (end : End) (old new : Outside) (status : ℕ
 served start begun end old new status a b before after final own starts none adds ends same_a same_b legal counted session told since held ended =
     let all : own ≡ final = sym (ends ∙ (adds ∙ ap (λ (l : List Entry). l ++ own) none)) in
     let faults : fault_number a.faults b.faults ≡ fault_of new = cc in
-    subst (λ (s : Start). (es : List Entry) × (e : End) × Served s es e old new × (status ≡ status_of e)) starts
-    (final, end, record {
-      legal = legal;
-      none_above = subst (λ (n : ℕ). NoneAbove n final) faults counted;
-      session = subst (λ (l : List Entry). Session old.met new.met l end) all session;
-      told = told;
-      since = since;
-      held = held;
-    }, ended)
+    subst (λ (s : Start). (es : List Entry) × (e : End) × Served s es e old new × (status ≡ status_of e)) starts (
+      final,
+      end,
+      record {
+        legal = legal;
+        none_above = subst (λ (n : ℕ). NoneAbove n final) faults counted;
+        session = subst (λ (l : List Entry). Session old.met new.met l end) all session;
+        told = told;
+        since = since;
+        held = held;
+      },
+      ended,
+    )

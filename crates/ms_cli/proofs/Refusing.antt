@@ -6,12 +6,11 @@ use Rattle.engine.specs.Keeping.{Kept}
 use Rattle.engine.specs.Opening.{IsBrokenStore}
 use Rattle.hms_outside.specs.Causes.{Rose}
 use Rattle.hms_outside.specs.Disks.{Lay, Lies, Went}
-use Rattle.ms_cli.specs.Keeping.{Disk, RefusesBytes, RefusesStore}
-use Rattle.ms_cli.specs.Local.{NoStore, Outside, Unmade, Unopened}
+use Rattle.ms_cli.specs.Keeping.{Disk, RefusesBytes}
+use Rattle.ms_cli.specs.Local.{NoStore, Outside, Unopened}
 use Rattle.ms_cli.specs.Telling.{Lines, refusal_line, refusal_status}
 use Rattle.ms_cli.proofs.Keeps.{held_outage, stays_kept}
-use Rattle.ms_cli.proofs.Statuses.{making_6, opening_6}
-use Rattle.ms_journal.specs.Faults.{IsMakingFault, IsOpeningFault, IsOutage}
+use Rattle.ms_journal.specs.Faults.{IsOpeningFault, IsOutage}
 use Rattle.ms_journal.specs.Files.{IsForeign}
 use Rattle.ms_journal.specs.Found.{AsFound, HeldStays, LeavesAsFound}
 use Rattle.ms_journal.specs.declared.fault.OpenFault.{OpenFault}
@@ -27,16 +26,6 @@ opening_bytes DiskFault None kind foreign broken = tt
 opening_bytes DiskFault (Some d) kind foreign broken = tt
 opening_bytes NoMemory None kind foreign broken = tt
 opening_bytes NoMemory (Some d) kind foreign broken = tt
-
--- the bytes show why no store is made on them
-making_bytes : (fault : OpenFault) (lies : Option Lies) → IsMakingFault fault → (fault ≡ NotEmpty → IfSome lies (λ d. 0 < length d.held)) → IfSome lies (λ d. RefusesBytes fault d.held)
-making_bytes NotEmpty lies kind not_empty = not_empty refl
-making_bytes Foreign lies kind not_empty = absurd kind
-making_bytes (Broken at) lies kind not_empty = absurd kind
-making_bytes DiskFault None kind not_empty = tt
-making_bytes DiskFault (Some d) kind not_empty = tt
-making_bytes NoMemory None kind not_empty = tt
-making_bytes NoMemory (Some d) kind not_empty = tt
 
 -- what was told for a refusal, and the disk that it left
 no_store : (fault : OpenFault) (old new : Outside) (status : ℕ) (left : Disk) → new.disk_a ≡ left → IfSome old.disk_a.lies (λ d. RefusesBytes fault d.held) → (fault ≡ DiskFault → Rose old.disk_a.faults left.faults)
@@ -62,22 +51,16 @@ unopened fault old new status left same kind foreign broken cause outage stays w
   kept = λ p kept. stays_kept p old.disk_a new.disk_a kept (subst (λ (d : Disk). Lay HeldStays old.disk_a.lies d.lies) (sym same) stays) (subst (λ (d : Disk). Went old.disk_a.past d.past d.lies (LeavesAsFound old.disk_a.lies) (AsFound old.disk_a.lies)) (sym same) went);
 }
 
-pub unmade : (fault : OpenFault) (old new : Outside) (status : ℕ) (left : Disk) → new.disk_a ≡ left → IsMakingFault fault → (fault ≡ NotEmpty → IfSome old.disk_a.lies (λ d. 0 < length d.held))
-    → (fault ≡ NotEmpty → left.lies ≡ old.disk_a.lies) → (fault ≡ DiskFault → Rose old.disk_a.faults left.faults)
-    → new.met ≡ old.met → new.disk_b ≡ old.disk_b → Lines (refusal_line fault) old.errors new.errors → status ≡ refusal_status fault → Unmade old new status
-unmade fault old new status left same kind not_empty stays cause met other told is = record {
-  fault = fault;
-  kind = kind;
-  none = no_store fault old new status left same (making_bytes fault old.disk_a.lies kind not_empty) cause met other told is;
-  same = subst (λ (d : Disk). fault ≡ NotEmpty → d.lies ≡ old.disk_a.lies) (sym same) stays;
-}
+-- status 6 is for the bytes
+opening_6 : (fault : OpenFault) (c : List ℕ) → IsOpeningFault fault → refusal_status fault ≡ 6 → RefusesBytes fault c → IsForeign c ⊎ ((at : ℕ) × IsBrokenStore at c)
+opening_6 NotEmpty c kind is due = absurd kind
+opening_6 Foreign c kind is due = inl due
+opening_6 (Broken at) c kind is due = inr (at, due)
+opening_6 DiskFault c kind is due = absurd cc
+opening_6 NoMemory c kind is due = absurd cc
 
 -- what status 6 says of the bytes
 pub opening_store : (fault : OpenFault) (lies : Option Lies) (status : ℕ) → IsOpeningFault fault → (fault ≡ Foreign → IfSome lies (λ d. IsForeign d.held)) → ((at : ℕ) → fault ≡ Broken at → IfSome lies (λ d. IsBrokenStore at d.held))
     → status ≡ refusal_status fault → status ≡ 6 → IfSome lies (λ d. IsForeign d.held ⊎ ((at : ℕ) × IsBrokenStore at d.held))
 opening_store fault None status kind foreign broken is six = tt
 opening_store fault (Some d) status kind foreign broken is six = opening_6 fault d.held kind (sym is ∙ six) (opening_bytes fault (Some d) kind foreign broken)
-
-pub making_store : (fault : OpenFault) (lies : Option Lies) (status : ℕ) → IsMakingFault fault → (fault ≡ NotEmpty → IfSome lies (λ d. 0 < length d.held)) → status ≡ refusal_status fault → status ≡ 6 → IfSome lies (λ d. 0 < length d.held)
-making_store fault None status kind not_empty is six = tt
-making_store fault (Some d) status kind not_empty is six = making_6 fault d.held kind (sym is ∙ six) (making_bytes fault (Some d) kind not_empty)

@@ -57,20 +57,14 @@ pub fn tell<E: Sink>(alloc: Global, errors: &mut E, end: End) -> Result<(), Outa
 }
 
 /// Tells why a store isn't made or opened.
-pub fn tell_refusal<E: Sink>(
-    alloc: Global,
-    errors: &mut E,
-    fault: OpenFault,
-) -> Result<(), Outage>
+pub fn tell_refusal<E: Sink>(alloc: Global, errors: &mut E, fault: OpenFault) -> Result<(), Outage>
     ensures told { TellsLine (refusal_line fault) result (E.held errors.old) (E.held errors.new) }
     ensures cause { HasCause (E.faults errors.old) (E.faults errors.new) result }
 {
     match fault {
         OpenFault::NotEmpty => tell_line(errors, "store: not empty\n"),
         OpenFault::Foreign => tell_line(errors, "store: foreign\n"),
-        OpenFault::Broken(at) => {
-            tell_text(errors, format!(in alloc; "store: broken at {at}\n"))
-        }
+        OpenFault::Broken(at) => { tell_text(errors, format!(in alloc; "store: broken at {at}\n")) }
         OpenFault::DiskFault => tell_line(errors, "store fault\n"),
         OpenFault::NoMemory => tell_line(errors, "out of memory\n"),
     }

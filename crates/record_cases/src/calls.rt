@@ -34,9 +34,10 @@ impl Worded for Call {
                 let owner = word_of(&db.rec.owner);
                 Ok(format!(in alloc; "create_database {name} {owner}")?)
             }
-            Call::GetNextNotification { last, max: Some(max) } => {
-                Ok(format!(in alloc; "get_next_notification {last} {max}")?)
-            }
+            Call::GetNextNotification {
+                last,
+                max: Some(max),
+            } => { Ok(format!(in alloc; "get_next_notification {last} {max}")?) }
             Call::GetNextNotification { last, max: None } => {
                 Ok(format!(in alloc; "get_next_notification {last} -")?)
             }

@@ -145,7 +145,12 @@ fn the_last_events_are_polled(rt: HostRuntime) -> Result<(), Fail> {
 fn the_last_number_is_told(rt: HostRuntime) -> Result<(), Fail> {
     let mut core = new_store(rt.alloc(), LAST)?;
     let answer = core.turn(0, step(Call::GetCurrentNotificationEventId));
-    assert!(rt; matches!(&answer, Answer::Reply(Reply::Big(9_223_372_036_854_775_807))));
+    assert!(rt;
+        matches!(
+            &answer,
+            Answer::Reply(Reply::Big(9_223_372_036_854_775_807))
+        )
+    );
     Ok(())
 }
 

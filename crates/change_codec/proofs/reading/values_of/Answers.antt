@@ -5,7 +5,7 @@ use Rattle.change_codec.proofs.reading.values_of.Goals as goal
 
 pub returns-in_err-value : goal.returns-in_err-value
 returns-in_err-value g c =
-    let p = err_from_is_err_and c.from_residual.result c.from_residual.ensures.1 in
+    let p = err_from_is_err_and c.from_residual-in_err-value.result c.from_residual-in_err-value.ensures.1 in
     rw (p.1, p.2) (ends (g.T.Get.read c.args.version) c.in_err-value.field-0.0 c.loop.values c.args.count c.loop.counter c.loop.rest.now (values_read (g.T.Get.read c.args.version) c.args.count c.args.bytes.now) c.loop-test.true c.in_err-value.ensures c.loop.invariant)
 
 pub loop-preserved : goal.loop-preserved
