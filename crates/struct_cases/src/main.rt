@@ -1,0 +1,21 @@
+//! Cases of the structs of tables: what is read of the bytes of a struct, and what is written of it again.
+#![tactic(auto)]
+
+mod again;
+mod faults;
+mod requests;
+mod structs;
+mod tables;
+
+use std::rt::Files;
+use structs::Structs;
+use table_cases::{Unable, run_table};
+
+fn main(rt: HostRuntime) -> Result<(), Unable> {
+    run(&rt)
+}
+
+// Runs the table.
+fn run(rt: &(impl Files + Print + AllocGlobal)) -> Result<(), Unable> {
+    run_table(rt, "structs", &Structs)
+}
