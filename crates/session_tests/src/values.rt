@@ -75,7 +75,7 @@ fn message(alloc: Global, bytes: &[u8]) -> Result<(Head, Asked), Fail> {
 fn unknown(alloc: Global, head: &Head) -> Result<MemSink, Fail> {
     let reply = unknown_method(alloc)?;
     let mut writer = WireWriter::new(alloc);
-    put_reply(&mut writer, head, &reply)?;
+    put_reply(alloc, &mut writer, head, &reply)?;
     let mut sink = MemSink::new(alloc, Vec::new(alloc));
     writer.send(&mut sink)?;
     Ok(sink)
