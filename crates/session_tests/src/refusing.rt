@@ -1,6 +1,7 @@
 //! A store whose disk soon has no memory.
 
 ghost use Rattle.std.specs.Prelude.{[], None};
+ghost use Rattle.hms_outside.specs.Causes.{HasCause};
 
 use crate::stores::ID;
 use engine::Engine;
@@ -15,7 +16,10 @@ pub struct Forgetful {
 }
 
 impl Forgetful {
-    fn take(&mut self) -> Result<(), Outage> {
+    // Takes one call more, or has no memory; it never fails.
+    fn take(&mut self) -> Result<(), Outage>
+        ensures { HasCause 0 0 result }
+    {
         if self.left == 0 {
             return Err(Outage::NoMemory);
         }
