@@ -2,6 +2,9 @@
 use Rattle.std.specs.Prelude.{◌≡◌, ◌==◌, ℕ, ◌≤◌, nat_le, Bool, ◌&&◌, ◌||◌, ◌⊎◌, List, length, All}
 use Rattle.std.specs.Char.{IsAsciiAlphanumeric, is_ascii_alphanumeric}
 use Rattle.std.specs.List.{list_all}
+use Rattle.std.specs.Str.{str_to_ascii_lowercase}
+use Rattle.cat_values.specs.declared.lower_names.LowerName.{LowerName}
+use Rattle.cat_values.specs.declared.lower_names.LowerName.TheVariants.{Made, Same}
 
 -- an ASCII letter, a digit or an underscore
 abbrev pub IsNameByte : ℕ → Type 0
@@ -23,3 +26,12 @@ IsObjectName name = HasNameLength name × All IsNameByte name
 
 abbrev pub is_object_name : List ℕ → Bool
 is_object_name name = has_name_length name && list_all is_name_byte name
+
+-- names of objects and columns are read without regard to the case of ASCII letters
+abbrev pub lower : List ℕ → List ℕ
+lower name = str_to_ascii_lowercase name
+
+-- the text of a name in lower case
+abbrev pub lower_name : LowerName → List ℕ
+lower_name (Same name) = name.now
+lower_name (Made name) = name

@@ -132,7 +132,7 @@ impl<T: Copy> ListOf<T> {
 
 impl<T: TryCopy> TryCopy for ListOf<T> {
     fn copy(&self, alloc: Global) -> Result<ListOf<T>, NoMemory> {
-        let mut items = Vec::new(alloc);
+        let mut items = Vec::with_capacity(alloc, self.items.len())?;
         for item in &self.items {
             items.push(item.copy(alloc)?)?;
         }

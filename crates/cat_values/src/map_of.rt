@@ -4,13 +4,14 @@ ghost use Rattle.std.specs.Prelude.{◌≡◌, ◌<◌, ◌≤◌, ◌+◌, ◌-
 ghost use Rattle.std.specs.Option.{option_copied};
 ghost use Rattle.std.specs.BTreeMap.{btree_map_len, insert_entry, is_at};
 ghost use Rattle.std.specs.List.Sorted.{IsStrictlySortedBy};
-ghost use Rattle.std.specs.Map.{keys_of, lookup, remove_entry};
+ghost use Rattle.std.specs.Map.{keys_of, lookup, remove_entry, set_value};
 
 use crate::{ListOf, NoMemory, Text, TryCopy};
 use std::alloc::Global;
 use std::collections::BTreeMap;
 use std::collections::btree_map::Iter;
 use std::marker::Model;
+use std::mem;
 
 /// A map from texts to texts, the parameters of an object.
 pub type Params = MapOf<Text, Text>;
@@ -114,6 +115,18 @@ impl<K: Ord + Drop, V: Drop> MapOf<K, V> {
         ensures entries { self.new ≡ remove_entry (is_at (K.cmp key.now)) self.old }
     {
         self.inner.remove(key)
+    }
+
+    /// Puts a value in the place of the one at a key, and gives that one, without taking memory.
+    /// Without that key the map stays as it was.
+    pub fn swap(&mut self, key: &K, value: V) -> Option<V>
+        ensures value { result ≡ lookup (is_at (K.cmp key.now)) self.old }
+        ensures entries { self.new ≡ set_value (is_at (K.cmp key.now)) self.old value }
+    {
+        let Some(place) = self.inner.get_mut(key) else {
+            return None;
+        };
+        Some(mem::replace(place, value))
     }
 }
 

@@ -7,6 +7,7 @@ ghost use Rattle.std.specs.Cmp.Rules.{comparing};
 ghost use Rattle.std.specs.Ordering.{nat_cmp, as_partial_cmp};
 ghost use Rattle.std.specs.Str.{bytes_eq, IsUtf8};
 ghost use Rattle.std.proofs.Common.{rules};
+ghost use Rattle.cat_values.specs.Names.{lower};
 ghost use Rattle.cat_values.specs.declared.text.TextFault.TheVariants.{NoMemory};
 
 use crate::{NoMemory, TryCopy};
@@ -78,6 +79,15 @@ impl Text {
             }
             Err(_) => None,
         }
+    }
+
+    /// The text with its ASCII letters in lower case.
+    pub fn to_lower(&self, alloc: Global) -> Result<Text, NoMemory>
+        ensures { IfOk result (λ text. text ≡ lower self.now) }
+    {
+        let mut inner = String::from_str(alloc, self.inner.as_str())?;
+        inner.make_ascii_lowercase();
+        Ok(Text { inner })
     }
 
     pub fn as_str(&self) -> &str
