@@ -1,7 +1,9 @@
 //! What a caller asks of the catalogue.
 
-use crate::DbArg;
-use cat_values::{NoMemory, Text, TryCopy};
+ghost use Rattle.std.specs.Prelude.{◌≡◌, IfOk};
+
+use crate::{DbArg, TableArg};
+use cat_values::{CopyParts, NoMemory, Text, Texts, TryCopy};
 use std::alloc::Global;
 
 /// A call of the catalogue with its arguments.
@@ -10,12 +12,82 @@ pub enum Call {
     /// The names of all databases.
     GetAllDatabases,
     /// The database with this name.
-    GetDatabase { name: Text },
+    GetDatabase {
+        name: Text,
+    },
     /// Makes a database.
-    CreateDatabase { db: DbArg },
+    CreateDatabase {
+        db: DbArg,
+    },
+    /// Drops a database, with all that it holds where `cascade` is set.
+    DropDatabase {
+        name: Text,
+        cascade: bool,
+    },
+    /// The names of the databases that a pattern asks for.
+    GetDatabases {
+        pattern: Text,
+    },
+    /// Gives a database this record.
+    AlterDatabase {
+        name: Text,
+        db: DbArg,
+    },
+    /// Makes a table.
+    CreateTable {
+        table: TableArg,
+    },
+    /// Drops a table with its partitions.
+    DropTable {
+        db: Text,
+        table: Text,
+    },
+    /// The names of a database's tables that a pattern asks for.
+    GetTables {
+        db: Text,
+        pattern: Text,
+    },
+    /// The names of all tables of a database.
+    GetAllTables {
+        db: Text,
+    },
+    /// The table with this name.
+    GetTable {
+        db: Text,
+        table: Text,
+    },
+    /// The same, by a request whose names may be absent.
+    GetTableReq {
+        db: Option<Text>,
+        table: Option<Text>,
+    },
+    /// Those of the named tables that there are, in the order of first asking.
+    GetTableObjectsByName {
+        db: Text,
+        tables: Texts,
+    },
+    /// Gives a table this record, or another name with it.
+    AlterTable {
+        db: Text,
+        table: Text,
+        new: TableArg,
+    },
+    /// The columns of a table.
+    GetFields {
+        db: Text,
+        table: Text,
+    },
+    /// The columns of a table, and behind them its partition keys.
+    GetSchema {
+        db: Text,
+        table: Text,
+    },
     /// The kept events above the number `last`, `max` of them at most; all where `max` is absent, 0
     /// or negative.
-    GetNextNotification { last: i64, max: Option<i32> },
+    GetNextNotification {
+        last: i64,
+        max: Option<i32>,
+    },
     /// The number of the newest event.
     GetCurrentNotificationEventId,
 }
@@ -24,19 +96,170 @@ impl TryCopy for Call {
     fn copy(&self, alloc: Global) -> Result<Call, NoMemory> {
         match self {
             Call::GetAllDatabases => Ok(Call::GetAllDatabases),
-            Call::GetDatabase { name } => match name.copy(alloc) {
-                Ok(name) => Ok(Call::GetDatabase { name }),
-                Err(NoMemory) => Err(NoMemory),
-            },
-            Call::CreateDatabase { db } => match db.copy(alloc) {
-                Ok(db) => Ok(Call::CreateDatabase { db }),
-                Err(NoMemory) => Err(NoMemory),
-            },
+            Call::GetCurrentNotificationEventId => Ok(Call::GetCurrentNotificationEventId),
             Call::GetNextNotification { last, max } => Ok(Call::GetNextNotification {
                 last: *last,
                 max: *max,
             }),
-            Call::GetCurrentNotificationEventId => Ok(Call::GetCurrentNotificationEventId),
+            Call::GetDatabase { name } => copy_get_database(name, alloc),
+            Call::CreateDatabase { db } => copy_create_database(db, alloc),
+            Call::DropDatabase { name, cascade } => copy_drop_database(name, *cascade, alloc),
+            Call::GetDatabases { pattern } => copy_get_databases(pattern, alloc),
+            Call::AlterDatabase { name, db } => copy_alter_database(name, db, alloc),
+            Call::CreateTable { table } => copy_create_table(table, alloc),
+            Call::DropTable { db, table } => copy_drop_table(db, table, alloc),
+            Call::GetTables { db, pattern } => copy_get_tables(db, pattern, alloc),
+            Call::GetAllTables { db } => copy_get_all_tables(db, alloc),
+            Call::GetTable { db, table } => copy_get_table(db, table, alloc),
+            Call::GetTableReq { db, table } => copy_get_table_req(db, table, alloc),
+            Call::GetTableObjectsByName { db, tables } => copy_get_tables_named(db, tables, alloc),
+            Call::AlterTable { db, table, new } => copy_alter_table(db, table, new, alloc),
+            Call::GetFields { db, table } => copy_get_fields(db, table, alloc),
+            Call::GetSchema { db, table } => copy_get_schema(db, table, alloc),
         }
+    }
+}
+
+fn copy_get_database(name: &Text, alloc: Global) -> Result<Call, NoMemory>
+    ensures { IfOk result (λ made. made ≡ Call.GetDatabase name.now) }
+{
+    match name.copy(alloc) {
+        Ok(name) => Ok(Call::GetDatabase { name }),
+        Err(NoMemory) => Err(NoMemory),
+    }
+}
+
+fn copy_create_database(db: &DbArg, alloc: Global) -> Result<Call, NoMemory>
+    ensures { IfOk result (λ made. made ≡ Call.CreateDatabase db.now) }
+{
+    match db.copy(alloc) {
+        Ok(db) => Ok(Call::CreateDatabase { db }),
+        Err(NoMemory) => Err(NoMemory),
+    }
+}
+
+fn copy_drop_database(name: &Text, cascade: bool, alloc: Global) -> Result<Call, NoMemory>
+    ensures { IfOk result (λ made. made ≡ Call.DropDatabase name.now cascade) }
+{
+    match name.copy(alloc) {
+        Ok(name) => Ok(Call::DropDatabase { name, cascade }),
+        Err(NoMemory) => Err(NoMemory),
+    }
+}
+
+fn copy_get_databases(pattern: &Text, alloc: Global) -> Result<Call, NoMemory>
+    ensures { IfOk result (λ made. made ≡ Call.GetDatabases pattern.now) }
+{
+    match pattern.copy(alloc) {
+        Ok(pattern) => Ok(Call::GetDatabases { pattern }),
+        Err(NoMemory) => Err(NoMemory),
+    }
+}
+
+fn copy_alter_database(name: &Text, db: &DbArg, alloc: Global) -> Result<Call, NoMemory>
+    ensures { IfOk result (λ made. made ≡ Call.AlterDatabase name.now db.now) }
+{
+    match (name, db).copy_parts(alloc) {
+        Ok((name, db)) => Ok(Call::AlterDatabase { name, db }),
+        Err(NoMemory) => Err(NoMemory),
+    }
+}
+
+fn copy_create_table(table: &TableArg, alloc: Global) -> Result<Call, NoMemory>
+    ensures { IfOk result (λ made. made ≡ Call.CreateTable table.now) }
+{
+    match table.copy(alloc) {
+        Ok(table) => Ok(Call::CreateTable { table }),
+        Err(NoMemory) => Err(NoMemory),
+    }
+}
+
+fn copy_drop_table(db: &Text, table: &Text, alloc: Global) -> Result<Call, NoMemory>
+    ensures { IfOk result (λ made. made ≡ Call.DropTable db.now table.now) }
+{
+    match (db, table).copy_parts(alloc) {
+        Ok((db, table)) => Ok(Call::DropTable { db, table }),
+        Err(NoMemory) => Err(NoMemory),
+    }
+}
+
+fn copy_get_tables(db: &Text, pattern: &Text, alloc: Global) -> Result<Call, NoMemory>
+    ensures { IfOk result (λ made. made ≡ Call.GetTables db.now pattern.now) }
+{
+    match (db, pattern).copy_parts(alloc) {
+        Ok((db, pattern)) => Ok(Call::GetTables { db, pattern }),
+        Err(NoMemory) => Err(NoMemory),
+    }
+}
+
+fn copy_get_all_tables(db: &Text, alloc: Global) -> Result<Call, NoMemory>
+    ensures { IfOk result (λ made. made ≡ Call.GetAllTables db.now) }
+{
+    match db.copy(alloc) {
+        Ok(db) => Ok(Call::GetAllTables { db }),
+        Err(NoMemory) => Err(NoMemory),
+    }
+}
+
+fn copy_get_table(db: &Text, table: &Text, alloc: Global) -> Result<Call, NoMemory>
+    ensures { IfOk result (λ made. made ≡ Call.GetTable db.now table.now) }
+{
+    match (db, table).copy_parts(alloc) {
+        Ok((db, table)) => Ok(Call::GetTable { db, table }),
+        Err(NoMemory) => Err(NoMemory),
+    }
+}
+
+fn copy_get_table_req(
+    db: &Option<Text>,
+    table: &Option<Text>,
+    alloc: Global,
+) -> Result<Call, NoMemory>
+    ensures { IfOk result (λ made. made ≡ Call.GetTableReq db.now table.now) }
+{
+    match (db, table).copy_parts(alloc) {
+        Ok((db, table)) => Ok(Call::GetTableReq { db, table }),
+        Err(NoMemory) => Err(NoMemory),
+    }
+}
+
+fn copy_get_tables_named(db: &Text, tables: &Texts, alloc: Global) -> Result<Call, NoMemory>
+    ensures { IfOk result (λ made. made ≡ Call.GetTableObjectsByName db.now tables.now) }
+{
+    match (db, tables).copy_parts(alloc) {
+        Ok((db, tables)) => Ok(Call::GetTableObjectsByName { db, tables }),
+        Err(NoMemory) => Err(NoMemory),
+    }
+}
+
+fn copy_alter_table(
+    db: &Text,
+    table: &Text,
+    new: &TableArg,
+    alloc: Global,
+) -> Result<Call, NoMemory>
+    ensures { IfOk result (λ made. made ≡ Call.AlterTable db.now table.now new.now) }
+{
+    match (db, table, new).copy_parts(alloc) {
+        Ok((db, table, new)) => Ok(Call::AlterTable { db, table, new }),
+        Err(NoMemory) => Err(NoMemory),
+    }
+}
+
+fn copy_get_fields(db: &Text, table: &Text, alloc: Global) -> Result<Call, NoMemory>
+    ensures { IfOk result (λ made. made ≡ Call.GetFields db.now table.now) }
+{
+    match (db, table).copy_parts(alloc) {
+        Ok((db, table)) => Ok(Call::GetFields { db, table }),
+        Err(NoMemory) => Err(NoMemory),
+    }
+}
+
+fn copy_get_schema(db: &Text, table: &Text, alloc: Global) -> Result<Call, NoMemory>
+    ensures { IfOk result (λ made. made ≡ Call.GetSchema db.now table.now) }
+{
+    match (db, table).copy_parts(alloc) {
+        Ok((db, table)) => Ok(Call::GetSchema { db, table }),
+        Err(NoMemory) => Err(NoMemory),
     }
 }

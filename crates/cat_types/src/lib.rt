@@ -14,9 +14,9 @@ mod steps;
 pub use arguments::{DbArg, TableArg};
 pub use calls::Call;
 pub use cat_values::{
-    Bytes, Column, Columns, CopyParts, DbRec, LIST_END, ListOf, MAP_END, MapOf, NoMemory, Order,
-    Orders, Params, PartRec, PlaceMap, Serde, Skew, StatRec, StatValue, Stats, Storage, TEXT_LIMIT,
-    TableRec, Text, TextFault, TextLists, Texts, TryCopy,
+    Bytes, Column, Columns, CopyParts, DbRec, LIST_END, ListOf, LowerName, MAP_END, MapOf,
+    NoMemory, Order, Orders, Params, PartRec, PlaceMap, Serde, Skew, StatRec, StatValue, Stats,
+    Storage, TEXT_LIMIT, TableRec, Text, TextFault, TextLists, Texts, TryCopy,
 };
 pub use changes::{Change, Event, EventKind, Events, Op, Ops};
 pub use items::{Item, Items};

@@ -1,7 +1,7 @@
 //! What the catalogue replies.
 
-use crate::Events;
-use cat_values::{CopyParts, DbRec, NoMemory, Text, Texts, TryCopy};
+use crate::{Events, Tables};
+use cat_values::{Columns, CopyParts, DbRec, NoMemory, Text, Texts, TryCopy};
 use std::alloc::Global;
 
 /// The result of a call, or its refusal.
@@ -15,8 +15,12 @@ pub enum Reply {
     Big(i64),
     /// Names, in byte order.
     Names(Texts),
+    /// Columns, in their order.
+    Fields(Columns),
     /// A database: its name and what is kept of it.
     Db(Text, DbRec),
+    /// Tables; a result that is one table is a list with that one.
+    Tables(Tables),
     /// Events, in the order of their numbers.
     Events(Events),
     /// The call was refused: the number of the refusal, and its text.
@@ -31,6 +35,14 @@ impl TryCopy for Reply {
             Reply::Big(number) => Ok(Reply::Big(*number)),
             Reply::Names(names) => match names.copy(alloc) {
                 Ok(names) => Ok(Reply::Names(names)),
+                Err(NoMemory) => Err(NoMemory),
+            },
+            Reply::Fields(columns) => match columns.copy(alloc) {
+                Ok(columns) => Ok(Reply::Fields(columns)),
+                Err(NoMemory) => Err(NoMemory),
+            },
+            Reply::Tables(tables) => match tables.copy(alloc) {
+                Ok(tables) => Ok(Reply::Tables(tables)),
                 Err(NoMemory) => Err(NoMemory),
             },
             Reply::Db(name, rec) => match (name, rec).copy_parts(alloc) {

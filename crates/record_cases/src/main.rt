@@ -13,6 +13,7 @@ mod phases;
 mod records;
 mod replies;
 mod steps;
+mod table_calls;
 mod texts;
 mod values;
 mod worded;

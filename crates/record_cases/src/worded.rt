@@ -1,7 +1,7 @@
 //! Values that no bytes spell, written in words.
 
 use crate::outcome::said;
-use cat_types::{DbRec, MapOf, Text, TryCopy};
+use cat_types::{DbRec, ListOf, MapOf, Storage, TableRec, Text, TryCopy};
 use std::alloc::Global;
 use table_cases::Unable;
 
@@ -55,4 +55,40 @@ pub fn owned_by(alloc: Global, owner: &str) -> Result<DbRec, Unable> {
         params: MapOf::new(alloc),
         owner,
     })
+}
+
+/// A table's record with this owner alone.
+pub fn table_owned_by(alloc: Global, owner: &str) -> Result<TableRec, Unable> {
+    let owner = text_of(alloc, owner)?;
+    Ok(TableRec {
+        owner,
+        created: 0,
+        accessed: 0,
+        retention: 0,
+        sd: no_storage(alloc),
+        keys: ListOf::new(alloc),
+        params: MapOf::new(alloc),
+        view_original: None,
+        view_expanded: None,
+        kind: None,
+        stats: MapOf::new(alloc),
+    })
+}
+
+// A storage of which nothing is said.
+fn no_storage(alloc: Global) -> Storage {
+    Storage {
+        cols: ListOf::new(alloc),
+        location: None,
+        input: None,
+        output: None,
+        compressed: false,
+        buckets: 0,
+        serde: None,
+        bucket_cols: ListOf::new(alloc),
+        sort_cols: ListOf::new(alloc),
+        params: MapOf::new(alloc),
+        skew: None,
+        sub_dirs: None,
+    }
 }
