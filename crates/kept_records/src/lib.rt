@@ -1,0 +1,13 @@
+//! What records are kept as that callers hand in: with names of columns in lower case, the moment of
+//! the change among their parameters, and the statistics of the columns that stayed.
+#![tactic(auto)]
+
+mod dates;
+mod keys;
+mod lowering;
+mod statistics;
+mod tables;
+
+pub use keys::have_same_keys;
+pub use lowering::lower_columns;
+pub use tables::{altered_table, made_table};
