@@ -1,115 +1,110 @@
 -- A change that is decided can be taken.
-use Rattle.std.proofs.Common.{◌≡◌, ◌==◌, ℕ, Bool, true, false, not, ◌&&◌, List, [], ◌∷◌, length, Option, Some, None, if◌then◌else◌, nat_lt, nat_le, refl, sym, ap, subst, ◌∙◌, map, eq-eqb, arith}
-use Rattle.std.proofs.lemmas.Bool.Decides.{nat_tests}
-use Rattle.std.proofs.lemmas.List.{length-map}
-use Rattle.std.specs.Char.{to_ascii_lowercase}
-use Rattle.std.specs.List.{list_all}
-use Rattle.cat_rules.specs.Names.{has_name_length, is_name_byte, is_object_name}
+use Rattle.std.proofs.Common.{◌≡◌, ◌==◌, ℕ, Bool, true, false, not, ◌&&◌, List, [], ◌∷◌, Option, Some, None, is_some, codes, length, if◌then◌else◌, nat_lt, nat_le, refl, ap, subst, ◌∙◌, eq-eqb}
+use Rattle.std.specs.Str.{bytes_eq}
 use Rattle.cat_types.specs.declared.arguments.DbArg.{DbArg}
+use Rattle.cat_types.specs.declared.arguments.TableArg.{TableArg}
 use Rattle.cat_types.specs.declared.calls.Call.{Call}
-use Rattle.cat_types.specs.declared.calls.Call.TheVariants.{CreateDatabase, GetAllDatabases, GetCurrentNotificationEventId, GetDatabase, GetNextNotification}
+use Rattle.cat_types.specs.declared.calls.Call.TheVariants.{AlterDatabase, AlterTable, CreateDatabase, CreateTable, DropDatabase, DropTable, GetAllDatabases, GetAllTables, GetCurrentNotificationEventId, GetDatabase, GetDatabases, GetFields, GetNextNotification, GetSchema, GetTable, GetTableObjectsByName, GetTableReq, GetTables}
 use Rattle.cat_types.specs.declared.changes.Change.{Change}
 use Rattle.cat_types.specs.declared.changes.EventKind.TheVariants as kind
-use Rattle.cat_types.specs.declared.changes.Op.TheVariants.{PutDb}
+use Rattle.cat_types.specs.declared.changes.Op.{Op}
+use Rattle.cat_types.specs.declared.changes.Op.TheVariants.{DropDb, PutDb}
 use Rattle.cat_types.specs.declared.replies.Reply.{Reply}
 use Rattle.cat_types.specs.declared.replies.Reply.TheVariants.{Nothing}
-use Rattle.catalogue.specs.Catalogue.{Catalogue, has_database}
-use Rattle.catalogue.specs.Changes.{takes_change}
+use Rattle.cat_values.specs.Names.{is_object_name, lower}
+use Rattle.catalogue.specs.Catalogue.{Catalogue, database, has_database, table}
+use Rattle.catalogue.specs.Changes.{are_some, has_operation, takes_call}
+use Rattle.catalogue.specs.Databases.{Rule, alter_database_rules, born_of, create_database_rules, database_altered, database_created, database_dropped, drop_database_rules, is_named, kept_name, kept_record}
 use Rattle.catalogue.specs.Decisions.{Decides, IfChange, decided_by, told}
-use Rattle.catalogue.specs.Rules.{breaks, create_breaks, decision, first_refusal, is_named, kept_name, kept_record, lacks_number, lower, result_of}
+use Rattle.catalogue.specs.Rules.{breaks, decision, first_broken, first_refusal, lacks_number, result_of}
+use Rattle.catalogue.specs.Tables.{alter_table_rules, create_table_rules, drop_table_rules, renames, table_altered, table_created, table_dropped, table_put}
 use Rattle.catalogue.specs.declared.bars.Bars.{Bars}
 use Rattle.catalogue.specs.declared.decided.Decided.{Decided}
 use Rattle.catalogue.specs.declared.decided.Decided.TheVariants as decided
+use Rattle.catalogue.specs.declared.held.HeldTable.{HeldTable}
 use Rattle.catalogue.specs.declared.refusal.Refusal.{Refusal}
+use Rattle.catalogue.proofs.DecidingTables.{alter_table_taken, create_table_taken, drop_table_taken}
+use Rattle.catalogue.proofs.Rules.{both, born_there, call_taken, fits_there, has_number, kept_named, unbroken}
 
--- ---- tests together
+-- ---- calls on databases
 
-all_of : (a b : Bool) → a ≡ true → b ≡ true → (a && b) ≡ true
-all_of a b p q = ap (λ (x : Bool). x && b) p ∙ q
+create_taken : (cat : Catalogue) (db : DbArg) (next : ℕ) → first_broken (create_database_rules cat db) ≡ None → nat_le next 9223372036854775807 ≡ true → takes_call cat next (database_created db next) ≡ true
+create_taken cat db next none room =
+    let tests = unbroken (create_database_rules cat db) none in
+    call_taken cat kind.CreateDatabase (kept_name db.name) next (PutDb (kept_record db.rec)) next room
+    (both (is_object_name (kept_name db.name)) _ (kept_named db.name tests.0) (both (not (has_database cat (kept_name db.name))) _ (ap not tests.1.0) (both (next == next) true (eq-eqb next next refl) refl)))
 
-first_of : (a b : Bool) → (a && b) ≡ true → a ≡ true
-first_of true b is = refl
-first_of false b is = absurd cc
+drop_taken : (cat : Catalogue) (bars : Bars) (name : List ℕ) (cascade : Bool) (next : ℕ) → first_broken (drop_database_rules cat bars name cascade) ≡ None → nat_le next 9223372036854775807 ≡ true → takes_call cat next (database_dropped cat name) ≡ true
+drop_taken cat bars name cascade next none room =
+    let tests = unbroken (drop_database_rules cat bars name cascade) none in
+    call_taken cat kind.DropDatabase name (born_of (database cat name)) DropDb next room (both _ true (born_there (database cat name) tests.0) refl)
 
-last_of : (a b : Bool) → (a && b) ≡ true → b ≡ true
-last_of true b is = is
-last_of false b is = absurd cc
+alter_taken : (cat : Catalogue) (bars : Bars) (name : List ℕ) (db : DbArg) (next : ℕ) → first_broken (alter_database_rules cat bars name db) ≡ None → nat_le next 9223372036854775807 ≡ true → takes_call cat next (database_altered cat name db) ≡ true
+alter_taken cat bars name db next none room =
+    let tests = unbroken (alter_database_rules cat bars name db) none in
+    call_taken cat kind.AlterDatabase name (born_of (database cat name)) (PutDb (kept_record db.rec)) next room (fits_there cat kind.AlterDatabase name (PutDb (kept_record db.rec)) tests.0 refl)
 
--- ---- a lawful name stays one in lower case
+-- ---- a call that changes something
 
-lower_byte : (c : ℕ) → is_name_byte c ≡ true → is_name_byte (to_ascii_lowercase c) ≡ true
-lower_byte c is = grind arith
+-- the change of a call that breaks no rule can be taken
+by_refusals : (cat : Catalogue) (next : ℕ) (o n : Option Refusal) (change c : Change) (r s : Reply) → (o ≡ None → n ≡ None → takes_call cat next change ≡ true) → decided.Change c r ≡ told (decided_by (first_refusal o n) (Some change) s) → takes_call cat next c ≡ true
+by_refusals cat next (Some x) n change c r s taken is = absurd cc
+by_refusals cat next None (Some x) change c r s taken is = absurd cc
+by_refusals cat next None None change c r s taken is =
+    let same : c ≡ change = cc in
+    ap (λ (d : Change). takes_call cat next d) same ∙ taken refl refl
 
-lower_bytes : (name : List ℕ) → list_all is_name_byte name ≡ true → list_all is_name_byte (map to_ascii_lowercase name) ≡ true
-lower_bytes [] is = refl
-lower_bytes (c ∷ cs) is =
-    all_of (is_name_byte (to_ascii_lowercase c)) (list_all is_name_byte (map to_ascii_lowercase cs)) (lower_byte c (first_of (is_name_byte c) (list_all is_name_byte cs) is)) (lower_bytes cs (last_of (is_name_byte c) (list_all is_name_byte cs) is))
+by_rules : (cat : Catalogue) (next : ℕ) (rules : List Rule) (change c : Change) (r s : Reply) → (first_broken rules ≡ None → has_operation change ≡ true) → (first_broken rules ≡ None → nat_le next 9223372036854775807 ≡ true → takes_call cat next change ≡ true)
+    → decided.Change c r ≡ told (decided_by (first_refusal (first_broken rules) (lacks_number (Some change) next)) (Some change) s) → takes_call cat next c ≡ true
+by_rules cat next rules change c r s makes taken is =
+    by_refusals cat next (first_broken rules) (lacks_number (Some change) next) change c r s (λ none room. taken none (has_number change next (makes none) room)) is
 
-lower_named : (name : List ℕ) → is_object_name name ≡ true → is_object_name (lower name) ≡ true
-lower_named name is =
-    all_of (has_name_length (lower name)) (list_all is_name_byte (lower name))
-    (ap (λ (n : ℕ). nat_le 1 n && nat_le n 128) (length-map name to_ascii_lowercase) ∙ first_of (has_name_length name) (list_all is_name_byte name) is)
-    (lower_bytes name (last_of (has_name_length name) (list_all is_name_byte name) is))
+-- a table that is there is put or moved
+either_some : (b : Bool) (first last : Op) → are_some (if b then first ∷ [] else last ∷ []) ≡ true
+either_some true first last = refl
+either_some false first last = refl
 
--- ---- creating a database
+put_some : (held : Option HeldTable) (name : List ℕ) (new : TableArg) (moment : ℕ) → not (is_some held) ≡ false → are_some (table_put held name new moment) ≡ true
+put_some None name new moment there = absurd cc
+put_some (Some held) name new moment there = either_some (renames new name) _ _
 
--- where no rule is broken, each test is false
-no_rule : (a b c : Bool) (x y z : Refusal) → (if a then Some x else (if b then Some y else (if c then Some z else None))) ≡ None → (a ≡ false) × (b ≡ false)
-no_rule true b c x y z e = absurd cc
-no_rule false true c x y z e = absurd cc
-no_rule false false true x y z e = absurd cc
-no_rule false false false x y z e = (refl, refl)
+alter_makes : (cat : Catalogue) (bars : Bars) (db name : List ℕ) (new : TableArg) (moment : ℕ) → first_broken (alter_table_rules cat bars db name new) ≡ None → has_operation (table_altered cat db name new moment) ≡ true
+alter_makes cat bars db name new moment none = put_some (table cat db name) name new moment (unbroken (alter_table_rules cat bars db name new) none).1.1.0
 
-kept_named : (name : Option (List ℕ)) → not (is_named name) ≡ false → is_object_name (kept_name name) ≡ true
-kept_named None is = absurd cc
-kept_named (Some name) is = lower_named name (not_false (is_object_name name) is)
-  where
-    not_false : (b : Bool) → not b ≡ false → b ≡ true
-    not_false true is = refl
-    not_false false is = absurd cc
+-- ---- a call that changes nothing
 
--- the change that creating a database makes
-abbrev creation : DbArg → ℕ → Change
-creation db next = record { kind = kind.CreateDatabase; db = kept_name db.name; db_born = next; ops = PutDb (kept_record db.rec) ∷ [] }
-
-has_room : (next : ℕ) (x : Refusal) → (if nat_lt 9223372036854775807 next then Some x else None) ≡ None → nat_le next 9223372036854775807 ≡ true
-has_room next x is = by_test (nat_lt 9223372036854775807 next) refl is
-  where
-    by_test : (b : Bool) → nat_lt 9223372036854775807 next ≡ b → (if b then Some x else None) ≡ None → nat_le next 9223372036854775807 ≡ true
-    by_test true room is = absurd cc
-    by_test false room is = grind (arith, nat_tests, room)
-
-creation_taken : (cat : Catalogue) (db : DbArg) (next : ℕ) → create_breaks cat db ≡ None → lacks_number (Some (creation db next)) next ≡ None → takes_change cat next (creation db next) ≡ true
-creation_taken cat db next rule number =
-    let tests = no_rule (not (is_named db.name)) (has_database cat (kept_name db.name)) (nat_le 1000000 (length cat.databases)) _ _ _ rule in
-    all_of (nat_le next 9223372036854775807) _ (has_room next _ number)
-    (all_of (next == next) _ (eq-eqb next next refl)
-    (all_of (is_object_name (kept_name db.name)) (not (has_database cat (kept_name db.name))) (kept_named db.name tests.0) (ap not tests.1)))
-
-by_create : (cat : Catalogue) (db : DbArg) (next : ℕ) (o n : Option Refusal) (c : Change) (r : Reply) → create_breaks cat db ≡ o → lacks_number (Some (creation db next)) next ≡ n
-    → decided.Change c r ≡ told (decided_by (first_refusal o n) (Some (creation db next)) Nothing) → takes_change cat next c ≡ true
-by_create cat db next (Some x) n c r rule number is = absurd cc
-by_create cat db next None (Some x) c r rule number is = absurd cc
-by_create cat db next None None c r rule number is =
-    let same : c ≡ creation db next = cc in
-    ap (λ (d : Change). takes_change cat next d) same ∙ creation_taken cat db next rule number
+no_change : (P : Type 0) (o : Option Refusal) (c : Change) (r s : Reply) → decided.Change c r ≡ told (decided_by (first_refusal o None) None s) → P
+no_change P None c r s is = absurd cc
+no_change P (Some x) c r s is = absurd cc
 
 -- ---- all calls
 
--- a call that changes nothing
-no_change : (o : Option Refusal) (c : Change) (r s : Reply) → decided.Change c r ≡ told (decided_by (first_refusal o None) None s) → ⊥
-no_change None c r s is = absurd cc
-no_change (Some x) c r s is = absurd cc
-
-change_taken : (cat : Catalogue) (bars : Bars) (call : Call) (moment next : ℕ) (c : Change) (r : Reply) → decided.Change c r ≡ told (decision cat bars call moment next) → takes_change cat next c ≡ true
-change_taken cat bars GetAllDatabases moment next c r is = absurd cc
-change_taken cat bars (GetDatabase name) moment next c r is = absurd (no_change (breaks cat bars (GetDatabase name) moment next) c r (result_of cat bars (GetDatabase name) moment next) is)
-change_taken cat bars (CreateDatabase db) moment next c r is = by_create cat db next (create_breaks cat db) (lacks_number (Some (creation db next)) next) c r refl refl is
-change_taken cat bars (GetNextNotification last max) moment next c r is = absurd cc
-change_taken cat bars GetCurrentNotificationEventId moment next c r is = absurd cc
+change_taken : (cat : Catalogue) (bars : Bars) (call : Call) (moment next : ℕ) (c : Change) (r : Reply) → decided.Change c r ≡ told (decision cat bars call moment next) → takes_call cat next c ≡ true
+change_taken cat bars GetAllDatabases moment next c r is = no_change _ None c r _ is
+change_taken cat bars (GetDatabase name) moment next c r is = no_change _ (breaks cat bars (GetDatabase name)) c r _ is
+change_taken cat bars (CreateDatabase db) moment next c r is = by_rules cat next (create_database_rules cat db) (database_created db next) c r Nothing (λ _. refl) (create_taken cat db next) is
+change_taken cat bars (DropDatabase name cascade) moment next c r is =
+    by_rules cat next (drop_database_rules cat bars (lower name) cascade) (database_dropped cat (lower name)) c r Nothing (λ _. refl) (drop_taken cat bars (lower name) cascade next) is
+change_taken cat bars (GetDatabases pattern) moment next c r is = no_change _ None c r _ is
+change_taken cat bars (AlterDatabase name db) moment next c r is =
+    by_rules cat next (alter_database_rules cat bars (lower name) db) (database_altered cat (lower name) db) c r Nothing (λ _. refl) (alter_taken cat bars (lower name) db next) is
+change_taken cat bars (CreateTable new) moment next c r is = by_rules cat next (create_table_rules cat bars new) (table_created cat new moment next) c r Nothing (λ _. refl) (create_table_taken cat bars new moment next) is
+change_taken cat bars (DropTable db name) moment next c r is =
+    by_rules cat next (drop_table_rules cat bars (lower db) (lower name)) (table_dropped cat (lower db) (lower name)) c r Nothing (λ _. refl) (drop_table_taken cat bars (lower db) (lower name) next) is
+change_taken cat bars (GetTables db pattern) moment next c r is = no_change _ None c r _ is
+change_taken cat bars (GetAllTables db) moment next c r is = no_change _ None c r _ is
+change_taken cat bars (GetTable db name) moment next c r is = no_change _ (breaks cat bars (GetTable db name)) c r _ is
+change_taken cat bars (GetTableReq db name) moment next c r is = no_change _ (breaks cat bars (GetTableReq db name)) c r _ is
+change_taken cat bars (GetTableObjectsByName db names) moment next c r is = no_change _ None c r _ is
+change_taken cat bars (AlterTable db name new) moment next c r is =
+    by_rules cat next (alter_table_rules cat bars (lower db) (lower name) new) (table_altered cat (lower db) (lower name) new moment) c r Nothing (alter_makes cat bars (lower db) (lower name) new moment) (alter_table_taken cat bars (lower db) (lower name) new moment next) is
+change_taken cat bars (GetFields db name) moment next c r is = no_change _ (breaks cat bars (GetFields db name)) c r _ is
+change_taken cat bars (GetSchema db name) moment next c r is = no_change _ (breaks cat bars (GetSchema db name)) c r _ is
+change_taken cat bars (GetNextNotification last max) moment next c r is = no_change _ None c r _ is
+change_taken cat bars GetCurrentNotificationEventId moment next c r is = no_change _ None c r _ is
 
 -- what is told of a decision can be taken
-pub all_taken : (cat : Catalogue) (bars : Bars) (call : Call) (moment next : ℕ) (answer : Decided) → Decides (decision cat bars call moment next) answer → IfChange answer (λ c. takes_change cat next c ≡ true)
+pub all_taken : (cat : Catalogue) (bars : Bars) (call : Call) (moment next : ℕ) (answer : Decided) → Decides (decision cat bars call moment next) answer → IfChange answer (λ c. takes_call cat next c ≡ true)
 all_taken cat bars call moment next (decided.Change c r) is = change_taken cat bars call moment next c r is
 all_taken cat bars call moment next (decided.Reply r) is = tt
 all_taken cat bars call moment next decided.NoMemory is = tt

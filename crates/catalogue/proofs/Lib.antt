@@ -1,2 +1,9 @@
-pub mod TakingBack
+pub mod Rules
+pub mod Maps
+pub mod Editing
+pub mod PlacedBack
+pub mod Taking
+pub mod Asking
+pub mod Numbering
+pub mod DecidingTables
 pub mod Deciding

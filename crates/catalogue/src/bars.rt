@@ -1,5 +1,12 @@
 //! What bars a change: replicas, and dumps and loads that are open.
 
+ghost use Rattle.std.specs.Prelude.{◌≡◌};
+ghost use Rattle.std.specs.List.{list_any};
+ghost use Rattle.std.specs.Str.{bytes_eq};
+ghost use Rattle.catalogue.specs.Databases.{is_loading, is_replica};
+ghost use Rattle.catalogue.specs.Tables.{is_dumping};
+
+use crate::showing::position_of;
 use cat_types::{ListOf, Text, Texts};
 
 /// A database that is a replica, and its position where it is live.
@@ -20,4 +27,39 @@ pub struct Bars {
     pub dumping: Texts,
     /// The targets of open loads.
     pub loading: Texts,
+}
+
+impl Bars {
+    // Whether a database is a replica.
+    pub(crate) fn is_replica(&self, name: &Text) -> bool
+        ensures { result ≡ is_replica self.now name.now }
+    {
+        position_of(&self.replicas, name).is_some()
+    }
+
+    // Whether a load of a database is open.
+    pub(crate) fn is_loading(&self, name: &Text) -> bool
+        ensures { result ≡ is_loading self.now name.now }
+    {
+        has_text(&self.loading, name)
+    }
+
+    // Whether a bootstrap dump of a database is open.
+    pub(crate) fn is_dumping(&self, name: &Text) -> bool
+        ensures { result ≡ is_dumping self.now name.now }
+    {
+        has_text(&self.dumping, name)
+    }
+}
+
+// Whether a text stands in a list.
+fn has_text(texts: &Texts, text: &Text) -> bool
+    ensures { result ≡ list_any (bytes_eq text.now) texts.now }
+{
+    for one in texts.as_slice() {
+        if *text == *one {
+            return true;
+        }
+    }
+    false
 }

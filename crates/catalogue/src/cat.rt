@@ -1,18 +1,19 @@
-//! The catalogue's databases.
+//! The catalogue's databases and their tables.
 
 ghost use Rattle.std.specs.Prelude.{◌≡◌, IfOk, length};
 ghost use Rattle.std.specs.Map.{keys_of};
 ghost use Rattle.std.specs.Option.{option_copied};
-ghost use Rattle.catalogue.specs.Catalogue.{database, has_database, new_catalogue};
+ghost use Rattle.catalogue.specs.Catalogue.{database, has_database, new_catalogue, table, tables_of};
 
-use cat_types::{DbRec, MapOf, NoMemory, Text, Texts};
+use crate::{HeldDb, HeldTable};
+use cat_types::{ListOf, MapOf, NoMemory, Text, Texts};
 use std::alloc::Global;
 use std::marker::Model;
 
-/// The databases by name, each with its born: the number of the event that made it.
+/// The databases by name, with what they hold.
 #[derive(Drop)]
 pub struct Cat {
-    pub(crate) databases: MapOf<Text, (u64, DbRec)>,
+    pub(crate) databases: MapOf<Text, HeldDb>,
     pub(crate) alloc: Global,
 }
 
@@ -33,13 +34,7 @@ impl Cat {
         let Ok(name) = Text::of(alloc, "default") else {
             return Err(NoMemory);
         };
-        let record = DbRec {
-            description: None,
-            location: None,
-            params: MapOf::new(alloc),
-            owner: None,
-        };
-        databases.put(name, (0, record))?;
+        databases.put(name, HeldDb::empty(alloc))?;
         Ok(Cat { databases, alloc })
     }
 
@@ -57,17 +52,44 @@ impl Cat {
         self.databases.get(name).is_some()
     }
 
-    // The born and the record of the database with this name, which is in lower case.
-    pub(crate) fn database(&self, name: &Text) -> Option<&(u64, DbRec)>
-        ensures { option_copied result ≡ database self.now name.now }
-    {
-        self.databases.get(name)
-    }
-
     /// How many databases there are.
     pub fn db_count(&self) -> u64
         ensures { result ≡ length self.now.databases }
     {
         self.databases.len() as u64
+    }
+
+    // The database with this name, which is in lower case.
+    pub(crate) fn database(&self, name: &Text) -> Option<&HeldDb>
+        ensures { option_copied result ≡ database self.now name.now }
+    {
+        self.databases.get(name)
+    }
+
+    // The table with this name in the database with that one; both are in lower case.
+    pub(crate) fn table(&self, db: &Text, name: &Text) -> Option<&HeldTable>
+        ensures { option_copied result ≡ table self.now db.now name.now }
+    {
+        self.database(db)?.tables.get(name)
+    }
+
+    // The names of a database's tables, in byte order; none where it isn't there.
+    pub(crate) fn table_names(&self, alloc: Global, db: &Text) -> Result<Texts, NoMemory>
+        ensures { IfOk result (λ names. names ≡ keys_of (tables_of (database self.now db.now))) }
+    {
+        match self.database(db) {
+            Some(held) => held.tables.keys(alloc),
+            None => Ok(ListOf::new(alloc)),
+        }
+    }
+
+    // How many tables a database has; none where it isn't there.
+    pub(crate) fn table_count(&self, db: &Text) -> u64
+        ensures { result ≡ length (tables_of (database self.now db.now)) }
+    {
+        match self.database(db) {
+            Some(held) => held.tables.len() as u64,
+            None => 0,
+        }
     }
 }

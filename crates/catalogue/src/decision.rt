@@ -1,32 +1,39 @@
 //! What a call is refused for, changes and results in.
 
 ghost use Rattle.std.specs.Prelude.{◌≡◌, [], ◌∷◌, IfOk, None, Some, true};
-ghost use Rattle.catalogue.specs.Changes.{takes_change};
+ghost use Rattle.catalogue.specs.Changes.{takes_call};
 ghost use Rattle.catalogue.specs.Decisions.{Decides, IfChange, decided_by, refused};
 ghost use Rattle.catalogue.specs.Polls.{poll_of};
-ghost use Rattle.catalogue.specs.Rules.{decision, kept_record, lacks_number, lower, ruled};
-ghost use Rattle.cat_types.specs.declared.calls.Call.TheVariants.{CreateDatabase, GetDatabase};
+ghost use Rattle.catalogue.specs.Rules.{decision, lacks_number, ruled};
 
-use crate::showing::{kept_record, shown_record};
+use crate::databases::{
+    alter_database, create_database, drop_database, get_all_databases, get_database, get_databases,
+};
+use crate::table_changes::{decide_alter_table, decide_create_table, decide_drop_table};
+use crate::table_reads::{
+    get_all_tables, get_fields, get_schema, get_table, get_table_req, get_tables, get_tables_named,
+};
 use crate::{Bars, Cat, Decided, Refusal};
-use cat_rules::object_name;
-use cat_types::{Call, Change, DbArg, DbRec, EventKind, ListOf, NoMemory, Op, Reply, Text};
+use cat_types::{Call, Change, EventKind, ListOf, NoMemory, Op, Reply, Text};
 use std::alloc::Global;
 
 /// How many databases a store has at most.
 pub const DATABASE_LIMIT: u64 = 1_000_000;
+
+/// How many tables a database has at most.
+pub const TABLE_LIMIT: u64 = 1_000_000;
 
 /// The greatest number of an event.
 pub const LAST_EVENT: u64 = 9_223_372_036_854_775_807;
 
 /// Decides a call over a catalogue: its refusal, or its change and its result. It needs a call that
 /// is no poll. `bars` says what bars changes, `moment` is the time in seconds since 1970, and `next`
-/// the number that an event of this call would get. A change that it tells can be taken. The calls
-/// that are here so far don't need the moment.
+/// the number that an event of this call would get. A change that it tells has one operation, and can
+/// be taken.
 pub fn decide(alloc: Global, cat: &Cat, bars: &Bars, call: &Call, moment: u64, next: u64) -> Decided
     requires { poll_of call.now ≡ None }
     ensures decided { Decides (decision cat.now bars.now call.now moment next) result }
-    ensures taken { IfChange result (λ change. takes_change cat.now next change ≡ true) }
+    ensures taken { IfChange result (λ change. takes_call cat.now next change ≡ true) }
 {
     decide_call(alloc, cat, bars, call, moment, next)
 }
@@ -73,99 +80,52 @@ fn decide_by_rules(
     ensures { Decides (ruled cat.now bars.now call.now moment next) result }
 {
     match call {
-        Call::GetAllDatabases => match cat.names(alloc) {
-            Ok(names) => Decided::Reply(Reply::Names(names)),
-            Err(NoMemory) => Decided::NoMemory,
-        },
-        Call::GetDatabase { name } => decide_get(alloc, cat, bars, name, moment, next),
-        Call::CreateDatabase { db } => decide_create(alloc, cat, bars, db, moment, next),
+        Call::GetAllDatabases => get_all_databases(alloc, cat),
+        Call::GetDatabase { name } => get_database(alloc, cat, bars, name),
+        Call::CreateDatabase { db } => create_database(alloc, cat, db, next),
+        Call::DropDatabase { name, cascade } => drop_database(alloc, cat, bars, name, *cascade),
+        Call::GetDatabases { pattern } => get_databases(alloc, cat, pattern),
+        Call::AlterDatabase { name, db } => alter_database(alloc, cat, bars, name, db),
+        Call::CreateTable { table } => decide_create_table(alloc, cat, bars, table, moment, next),
+        Call::DropTable { db, table } => decide_drop_table(
+            alloc, cat, bars, db, table, moment, next,
+        ),
+        Call::GetTables { db, pattern } => get_tables(alloc, cat, db, pattern),
+        Call::GetAllTables { db } => get_all_tables(alloc, cat, db),
+        Call::GetTable { db, table } => get_table(alloc, cat, db, table),
+        Call::GetTableReq { db, table } => get_table_req(alloc, cat, db, table),
+        Call::GetTableObjectsByName { db, tables } => get_tables_named(alloc, cat, db, tables),
+        Call::AlterTable { db, table, new } => {
+            decide_alter_table(alloc, cat, bars, db, table, new, moment, next)
+        }
+        Call::GetFields { db, table } => get_fields(alloc, cat, db, table),
+        Call::GetSchema { db, table } => get_schema(alloc, cat, db, table),
         Call::GetNextNotification { last: _, max: _ } => unreachable!(),
         Call::GetCurrentNotificationEventId => unreachable!(),
     }
 }
 
-// A database by its name.
-fn decide_get(
+// A change with one operation.
+pub(crate) fn one_op(
     alloc: Global,
-    cat: &Cat,
-    bars: &Bars,
-    name: &Text,
-    _moment: u64,
-    _next: u64,
-) -> Decided
-    ensures { Decides (ruled cat.now bars.now (GetDatabase name.now) _moment _next) result }
+    kind: EventKind,
+    db: Text,
+    db_born: u64,
+    op: Op,
+) -> Result<Change, NoMemory>
+    ensures { IfOk result (λ made. made ≡ record { kind = kind; db = db; db_born = db_born; ops = op ∷ [] }) }
 {
-    let Ok(name) = lower(alloc, name) else {
-        return Decided::NoMemory;
-    };
-    let Some((_, rec)) = cat.database(&name) else {
-        return refused(alloc, Refusal::NoSuchObject);
-    };
-    match shown_record(alloc, &bars.replicas, &name, rec) {
-        Ok(rec) => Decided::Reply(Reply::Db(name, rec)),
-        Err(NoMemory) => Decided::NoMemory,
-    }
-}
-
-// Creating a database.
-fn decide_create(
-    alloc: Global,
-    cat: &Cat,
-    _bars: &Bars,
-    db: &DbArg,
-    _moment: u64,
-    next: u64,
-) -> Decided
-    ensures { Decides (ruled cat.now _bars.now (CreateDatabase db.now) _moment next) result }
-{
-    let Some(name) = &db.name else {
-        return refused(alloc, Refusal::InvalidObject);
-    };
-    if !object_name(name) {
-        return refused(alloc, Refusal::InvalidObject);
-    }
-    let Ok(name) = lower(alloc, name) else {
-        return Decided::NoMemory;
-    };
-    if cat.has_database(&name) {
-        return refused(alloc, Refusal::AlreadyExists);
-    }
-    if cat.db_count() >= DATABASE_LIMIT {
-        return refused(alloc, Refusal::InvalidObject);
-    }
-    match creation(alloc, name, &db.rec, next) {
-        Ok(change) => Decided::Change(change, Reply::Nothing),
-        Err(NoMemory) => Decided::NoMemory,
-    }
-}
-
-// The change that makes a database.
-fn creation(alloc: Global, name: Text, rec: &DbRec, born: u64) -> Result<Change, NoMemory>
-    ensures { IfOk result (λ made. made ≡ record { kind = EventKind.CreateDatabase; db = name; db_born = born; ops = Op.PutDb (kept_record rec.now) ∷ [] }) }
-{
-    let rec = kept_record(alloc, rec)?;
+    let ops = ListOf::from_vec(vec![in alloc; op]?)?;
     Ok(Change {
-        kind: EventKind::CreateDatabase,
-        db: name,
-        db_born: born,
-        ops: ListOf::from_vec(vec![in alloc; Op::PutDb { rec }]?)?,
+        kind,
+        db,
+        db_born,
+        ops,
     })
 }
 
-// A name with its ASCII letters in lower case.
-fn lower(alloc: Global, name: &Text) -> Result<Text, NoMemory>
-    ensures { IfOk result (λ made. made ≡ lower name.now) }
-{
-    let mut lowered = String::from_str(alloc, name.as_str())?;
-    lowered.make_ascii_lowercase();
-    match Text::of(alloc, lowered.as_str()) {
-        Ok(text) => Ok(text),
-        Err(_) => Err(NoMemory),
-    }
-}
-
 // Tells a refusal.
-fn refused(alloc: Global, refusal: Refusal) -> Decided
+pub(crate) fn refused(alloc: Global, refusal: Refusal) -> Decided
     ensures { Decides (refused refusal) result }
 {
     match Text::of(alloc, refusal.text()) {

@@ -1,14 +1,14 @@
 //! How records of databases are kept and shown.
 
 ghost use Rattle.std.specs.Prelude.{◌≡◌, IfOk, decimal};
-ghost use Rattle.catalogue.specs.Rules.{kept_record, placed_record, position, position_key, shown_record};
+ghost use Rattle.catalogue.specs.Databases.{kept_record, placed_record, position, position_key, shown_record};
 
 use crate::ReplicaAts;
 use cat_types::{DbRec, NoMemory, Text, TryCopy};
 use std::alloc::Global;
 
 // A record as it is kept.
-pub fn kept_record(alloc: Global, rec: &DbRec) -> Result<DbRec, NoMemory>
+pub(crate) fn kept_record(alloc: Global, rec: &DbRec) -> Result<DbRec, NoMemory>
     ensures { IfOk result (λ made. made ≡ kept_record rec.now) }
 {
     let key = position_key(alloc)?;
@@ -18,7 +18,7 @@ pub fn kept_record(alloc: Global, rec: &DbRec) -> Result<DbRec, NoMemory>
 }
 
 // The record of the database with this name, as it is shown.
-pub fn shown_record(
+pub(crate) fn shown_record(
     alloc: Global,
     replicas: &ReplicaAts,
     name: &Text,
@@ -26,7 +26,7 @@ pub fn shown_record(
 ) -> Result<DbRec, NoMemory>
     ensures { IfOk result (λ made. made ≡ shown_record (position replicas.now name.now) rec.now) }
 {
-    match position(replicas, name) {
+    match position_of(replicas, name) {
         None => rec.copy(alloc),
         Some(None) => kept_record(alloc, rec),
         Some(Some(at)) => placed_record(alloc, at, rec),
@@ -34,7 +34,7 @@ pub fn shown_record(
 }
 
 // Whether a database is a replica, and its position where it is live.
-fn position(replicas: &ReplicaAts, name: &Text) -> Option<Option<u64>>
+pub(crate) fn position_of(replicas: &ReplicaAts, name: &Text) -> Option<Option<u64>>
     ensures { result ≡ position replicas.now name.now }
 {
     for replica in replicas.as_slice() {

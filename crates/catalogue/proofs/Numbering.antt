@@ -1,0 +1,26 @@
+-- A call that its own rules decide is decided once a number for its event is looked for.
+use Rattle.std.proofs.Common.{◌≡◌, ℕ, Option, Some, None, refl, sym, ap, subst, ◌∙◌}
+use Rattle.cat_types.specs.declared.changes.Change.{Change}
+use Rattle.cat_types.specs.declared.replies.Reply.{Reply}
+use Rattle.catalogue.specs.Decisions.{Decides, decided_by, told}
+use Rattle.catalogue.specs.Rules.{first_refusal, lacks_number}
+use Rattle.catalogue.specs.declared.decided.Decided.{Decided}
+use Rattle.catalogue.specs.declared.decided.Decided.TheVariants as decided
+use Rattle.catalogue.specs.declared.refusal.Refusal.{Refusal}
+
+-- a call that changes something
+pub numbered : (o : Option Refusal) (due : Option Change) (result : Reply) (next : ℕ) (change : Change) (reply : Reply) (answer : Decided) → decided.Change change reply ≡ told (decided_by o due result)
+    → Decides (decided_by (lacks_number (Some change) next) (Some change) reply) answer → Decides (decided_by (first_refusal o (lacks_number due next)) due result) answer
+numbered (Some x) due result next change reply answer is told_so = absurd cc
+numbered None None result next change reply answer is told_so = absurd cc
+numbered None (Some due) result next change reply answer is told_so =
+    let same : change ≡ due = cc in
+    let same_reply : reply ≡ result = cc in
+    subst (λ (r : Reply). Decides (decided_by (lacks_number (Some due) next) (Some due) r) answer) same_reply
+    (subst (λ (d : Change). Decides (decided_by (lacks_number (Some d) next) (Some d) reply) answer) same told_so)
+
+-- a call that is refused or changes nothing
+pub unnumbered : (o : Option Refusal) (due : Option Change) (result : Reply) (next : ℕ) (reply : Reply) → decided.Reply reply ≡ told (decided_by o due result) → decided.Reply reply ≡ told (decided_by (first_refusal o (lacks_number due next)) due result)
+unnumbered (Some x) due result next reply is = is
+unnumbered None None result next reply is = is
+unnumbered None (Some due) result next reply is = absurd cc
