@@ -23,18 +23,18 @@ behind form bytes value rest are is = AreBytes-behind (form.code value) rest (su
 -- ---- one behind the other
 
 module _ {A B : Type 0} (first : Form A) (second : Form B) (p : IsLawful first) (q : IsLawful second) where
-  then_again : (a : A) (b : B) (rest : List ℕ) → first.Fits a → second.Fits b → then_read first.read second.read ((first.code a ++ second.code b) ++ rest) ≡ Ok ((a, b), rest)
+  then_again : (a : A) (b : B) (rest : List ℕ) → first.HasCode a → second.HasCode b → then_read first.read second.read ((first.code a ++ second.code b) ++ rest) ≡ Ok ((a, b), rest)
   unfolding then_read
   then_again a b rest f g = rw (append_assoc (first.code a) (second.code b) rest, p.again a (second.code b ++ rest) f, q.again b rest g) refl
 
-  then_spelled : (bytes : List ℕ) (value : A × B) (rest : List ℕ) → AreBytes bytes → then_read first.read second.read bytes ≡ Ok (value, rest) → (bytes ≡ (first ⊗ second).code value ++ rest) × (first ⊗ second).Fits value
+  then_spelled : (bytes : List ℕ) (value : A × B) (rest : List ℕ) → AreBytes bytes → then_read first.read second.read bytes ≡ Ok (value, rest) → (bytes ≡ (first ⊗ second).code value ++ rest) × (first ⊗ second).HasCode value
   unfolding then_read
   then_spelled bytes value rest are e =
       let x = bind_ok (first.read bytes) (λ a. second.read a.1 >>= λ b. Ok ((a.0, b.0), b.1)) (value, rest) e in
       let y = bind_ok (second.read x.0.1) (λ b. Ok ((x.0.0, b.0), b.1)) (value, rest) x.2 in
       let s = p.spelled bytes x.0.0 x.0.1 are x.1 in
       let t = q.spelled x.0.1 y.0.0 y.0.1 (behind first bytes x.0.0 x.0.1 are s.0) y.1 in
-      subst (λ (r : (A × B) × List ℕ). (bytes ≡ (first ⊗ second).code r.0 ++ r.1) × (first ⊗ second).Fits r.0) (ok_is ((x.0.0, y.0.0), y.0.1) (value, rest) y.2)
+      subst (λ (r : (A × B) × List ℕ). (bytes ≡ (first ⊗ second).code r.0 ++ r.1) × (first ⊗ second).HasCode r.0) (ok_is ((x.0.0, y.0.0), y.0.1) (value, rest) y.2)
       (s.0 ∙ ap (λ (l : List ℕ). first.code x.0.0 ++ l) t.0 ∙ sym (append_assoc (first.code x.0.0) (second.code y.0.0) y.0.1), (s.1, t.1))
 
   pub then-lawful : IsLawful (first ⊗ second)
@@ -44,7 +44,7 @@ joined3 : (a b c rest : List ℕ) → a ++ (b ++ (c ++ rest)) ≡ ((a ++ b) ++ c
 joined3 a b c rest = sym (append_assoc a b (c ++ rest)) ∙ sym (append_assoc (a ++ b) c rest)
 
 module _ {A B C : Type 0} (first : Form A) (second : Form B) (third : Form C) (p : IsLawful first) (q : IsLawful second) (r : IsLawful third) where
-  three_again : (a : A) (b : B) (c : C) (rest : List ℕ) → first.Fits a → second.Fits b → third.Fits c
+  three_again : (a : A) (b : B) (c : C) (rest : List ℕ) → first.HasCode a → second.HasCode b → third.HasCode c
       → three_read first.read second.read third.read (((first.code a ++ second.code b) ++ third.code c) ++ rest) ≡ Ok ((a, b, c), rest)
   unfolding three_read
   three_again a b c rest f g h =
@@ -57,7 +57,7 @@ module _ {A B C : Type 0} (first : Form A) (second : Form B) (third : Form C) (p
       ) refl
 
   three_spelled : (bytes : List ℕ) (value : A × B × C) (rest : List ℕ) → AreBytes bytes → three_read first.read second.read third.read bytes ≡ Ok (value, rest)
-      → (bytes ≡ (three first second third).code value ++ rest) × (three first second third).Fits value
+      → (bytes ≡ (three first second third).code value ++ rest) × (three first second third).HasCode value
   unfolding three_read
   three_spelled bytes value rest are e =
       let x = bind_ok {B = A × B × C} (first.read bytes) (λ a. second.read a.1 >>= λ b. third.read b.1 >>= λ c. Ok ((a.0, b.0, c.0), c.1)) (value, rest) e in
@@ -70,14 +70,14 @@ module _ {A B C : Type 0} (first : Form A) (second : Form B) (third : Form C) (p
       let code0 = first.code x.0.0 in
       let code1 = second.code y.0.0 in
       let code2 = third.code z.0.0 in
-      subst (λ (v : (A × B × C) × List ℕ). (bytes ≡ (three first second third).code v.0 ++ v.1) × (three first second third).Fits v.0) (ok_is ((x.0.0, y.0.0, z.0.0), z.0.1) (value, rest) z.2)
+      subst (λ (v : (A × B × C) × List ℕ). (bytes ≡ (three first second third).code v.0 ++ v.1) × (three first second third).HasCode v.0) (ok_is ((x.0.0, y.0.0, z.0.0), z.0.1) (value, rest) z.2)
       (s.0 ∙ ap (λ (l : List ℕ). code0 ++ l) (t.0 ∙ ap (λ (l : List ℕ). code1 ++ l) u.0) ∙ joined3 code0 code1 code2 z.0.1, (s.1, t.1, u.1))
 
   pub three-lawful : IsLawful (three first second third)
   three-lawful = record { again = λ v rest f. three_again v.0 v.1 v.2 rest f.0 f.1 f.2; spelled = three_spelled }
 
 module _ {A B C D : Type 0} (first : Form A) (second : Form B) (third : Form C) (fourth : Form D) (p : IsLawful first) (q : IsLawful second) (r : IsLawful third) (s : IsLawful fourth) where
-  four_again : (a : A) (b : B) (c : C) (d : D) (rest : List ℕ) → first.Fits a → second.Fits b → third.Fits c → fourth.Fits d
+  four_again : (a : A) (b : B) (c : C) (d : D) (rest : List ℕ) → first.HasCode a → second.HasCode b → third.HasCode c → fourth.HasCode d
       → four_read first.read second.read third.read fourth.read ((((first.code a ++ second.code b) ++ third.code c) ++ fourth.code d) ++ rest) ≡ Ok ((a, b, c, d), rest)
   unfolding four_read
   four_again a b c d rest f g h i =
@@ -92,7 +92,7 @@ module _ {A B C D : Type 0} (first : Form A) (second : Form B) (third : Form C) 
       ) refl
 
   four_spelled : (bytes : List ℕ) (value : A × B × C × D) (rest : List ℕ) → AreBytes bytes → four_read first.read second.read third.read fourth.read bytes ≡ Ok (value, rest)
-      → (bytes ≡ (four first second third fourth).code value ++ rest) × (four first second third fourth).Fits value
+      → (bytes ≡ (four first second third fourth).code value ++ rest) × (four first second third fourth).HasCode value
   unfolding four_read
   four_spelled bytes value rest are e =
       let x = bind_ok {B = A × B × C × D} (first.read bytes) (λ a. second.read a.1 >>= λ b. third.read b.1 >>= λ c. fourth.read c.1 >>= λ d. Ok ((a.0, b.0, c.0, d.0), d.1)) (value, rest) e in
@@ -109,7 +109,7 @@ module _ {A B C D : Type 0} (first : Form A) (second : Form B) (third : Form C) 
       let code1 = second.code y.0.0 in
       let code2 = third.code z.0.0 in
       let code3 = fourth.code w.0.0 in
-      subst (λ (n : (A × B × C × D) × List ℕ). (bytes ≡ (four first second third fourth).code n.0 ++ n.1) × (four first second third fourth).Fits n.0) (ok_is ((x.0.0, y.0.0, z.0.0, w.0.0), w.0.1) (value, rest) w.2)
+      subst (λ (n : (A × B × C × D) × List ℕ). (bytes ≡ (four first second third fourth).code n.0 ++ n.1) × (four first second third fourth).HasCode n.0) (ok_is ((x.0.0, y.0.0, z.0.0, w.0.0), w.0.1) (value, rest) w.2)
       (t.0 ∙ ap (λ (l : List ℕ). code0 ++ l) (u.0 ∙ ap (λ (l : List ℕ). code1 ++ l) (v.0 ∙ ap (λ (l : List ℕ). code2 ++ l) o.0)) ∙ joined3 code0 code1 code2 (code3 ++ w.0.1) ∙ sym (append_assoc ((code0 ++ code1) ++ code2) code3 w.0.1), (t.1, u.1, v.1, o.1))
 
   pub four-lawful : IsLawful (four first second third fourth)
@@ -118,11 +118,11 @@ module _ {A B C D : Type 0} (first : Form A) (second : Form B) (third : Form C) 
 -- ---- made of parts
 
 module _ {A B : Type 0} (make : A → B) (form : Form A) (p : IsLawful form) where
-  pub made_again : (a : A) (rest : List ℕ) → form.Fits a → made_read make form.read (form.code a ++ rest) ≡ Ok (make a, rest)
+  pub made_again : (a : A) (rest : List ℕ) → form.HasCode a → made_read make form.read (form.code a ++ rest) ≡ Ok (make a, rest)
   unfolding made_read
   made_again a rest f = rw (p.again a rest f) refl
 
-  pub made_parts : (bytes : List ℕ) (value : B) (rest : List ℕ) → AreBytes bytes → made_read make form.read bytes ≡ Ok (value, rest) → (a : A) × (make a ≡ value) × (bytes ≡ form.code a ++ rest) × form.Fits a
+  pub made_parts : (bytes : List ℕ) (value : B) (rest : List ℕ) → AreBytes bytes → made_read make form.read bytes ≡ Ok (value, rest) → (a : A) × (make a ≡ value) × (bytes ≡ form.code a ++ rest) × form.HasCode a
   unfolding made_read
   made_parts bytes value rest are e =
       let x = bind_ok (form.read bytes) (λ a. Ok (make a.0, a.1)) (value, rest) e in
@@ -136,25 +136,25 @@ made-lawful {A} {B} make parts form p back forth = record {
   spelled = λ bytes v rest are e.
       let x = made_parts make form p bytes v rest are e in
       let same : parts v ≡ x.0 = sym (ap parts x.1) ∙ forth x.0 in
-      subst (λ (a : A). (bytes ≡ form.code a ++ rest) × form.Fits a) (sym same) (x.2, x.3);
+      subst (λ (a : A). (bytes ≡ form.code a ++ rest) × form.HasCode a) (sym same) (x.2, x.3);
 }
 
 -- ---- options
 
 module _ {T : Type 0} (form : Form T) (p : IsLawful form) where
-  option_again : (o : Option T) (rest : List ℕ) → IfSome o form.Fits → option_read form.read (option_code form.code o ++ rest) ≡ Ok (o, rest)
+  option_again : (o : Option T) (rest : List ℕ) → IfSome o form.HasCode → option_read form.read (option_code form.code o ++ rest) ≡ Ok (o, rest)
   unfolding option_read
   option_again None rest f = refl
   option_again (Some v) rest f = rw (p.again v rest f) refl
 
-  option_spelled : (bytes : List ℕ) (o : Option T) (rest : List ℕ) → AreBytes bytes → option_read form.read bytes ≡ Ok (o, rest) → (bytes ≡ option_code form.code o ++ rest) × IfSome o form.Fits
+  option_spelled : (bytes : List ℕ) (o : Option T) (rest : List ℕ) → AreBytes bytes → option_read form.read bytes ≡ Ok (o, rest) → (bytes ≡ option_code form.code o ++ rest) × IfSome o form.HasCode
   unfolding option_read
   option_spelled [] o rest are e = absurd cc
-  option_spelled (zero ∷ bytes) o rest are e = subst (λ (r : Option T × List ℕ). (0 ∷ bytes ≡ option_code form.code r.0 ++ r.1) × IfSome r.0 form.Fits) (ok_is (None, bytes) (o, rest) e) (refl, tt)
+  option_spelled (zero ∷ bytes) o rest are e = subst (λ (r : Option T × List ℕ). (0 ∷ bytes ≡ option_code form.code r.0 ++ r.1) × IfSome r.0 form.HasCode) (ok_is (None, bytes) (o, rest) e) (refl, tt)
   option_spelled (suc zero ∷ bytes) o rest are e =
       let x = bind_ok (form.read bytes) (λ v. Ok (Some v.0, v.1)) (o, rest) e in
       let s = p.spelled bytes x.0.0 x.0.1 (AreBytes-behind (1 ∷ []) bytes are) x.1 in
-      subst (λ (r : Option T × List ℕ). (1 ∷ bytes ≡ option_code form.code r.0 ++ r.1) × IfSome r.0 form.Fits) (ok_is (Some x.0.0, x.0.1) (o, rest) x.2) (ap (λ (l : List ℕ). 1 ∷ l) s.0, s.1)
+      subst (λ (r : Option T × List ℕ). (1 ∷ bytes ≡ option_code form.code r.0 ++ r.1) × IfSome r.0 form.HasCode) (ok_is (Some x.0.0, x.0.1) (o, rest) x.2) (ap (λ (l : List ℕ). 1 ∷ l) s.0, s.1)
   option_spelled (suc (suc n) ∷ bytes) o rest are e = absurd cc
 
   pub optional-lawful : IsLawful (optional form)
@@ -162,30 +162,30 @@ module _ {T : Type 0} (form : Form T) (p : IsLawful form) where
 
   -- ---- lists
 
-  values_again : (values : List T) (rest : List ℕ) → AllByRecursion form.Fits values → values_read form.read (length values) (flat_map form.code values ++ rest) ≡ Ok (values, rest)
+  values_again : (values : List T) (rest : List ℕ) → AllByRecursion form.HasCode values → values_read form.read (length values) (flat_map form.code values ++ rest) ≡ Ok (values, rest)
   unfolding values_read
   values_again [] rest f = refl
   values_again (v ∷ values) rest f =
       rw (append_assoc (form.code v) (flat_map form.code values) rest, p.again v (flat_map form.code values ++ rest) f.0, values_again values rest f.1) refl
 
-  values_spelled : (count : ℕ) (bytes : List ℕ) (values : List T) (rest : List ℕ) → AreBytes bytes → values_read form.read count bytes ≡ Ok (values, rest) → (bytes ≡ flat_map form.code values ++ rest) × AllByRecursion form.Fits values × (length values ≡ count)
+  values_spelled : (count : ℕ) (bytes : List ℕ) (values : List T) (rest : List ℕ) → AreBytes bytes → values_read form.read count bytes ≡ Ok (values, rest) → (bytes ≡ flat_map form.code values ++ rest) × AllByRecursion form.HasCode values × (length values ≡ count)
   unfolding values_read
   values_spelled zero bytes values rest are e =
-      subst (λ (r : List T × List ℕ). (bytes ≡ flat_map form.code r.0 ++ r.1) × AllByRecursion form.Fits r.0 × (length r.0 ≡ 0)) (ok_is ([], bytes) (values, rest) e) (refl, tt, refl)
+      subst (λ (r : List T × List ℕ). (bytes ≡ flat_map form.code r.0 ++ r.1) × AllByRecursion form.HasCode r.0 × (length r.0 ≡ 0)) (ok_is ([], bytes) (values, rest) e) (refl, tt, refl)
   values_spelled (suc count) bytes values rest are e =
       let x = bind_ok (form.read bytes) (λ v. values_read form.read count v.1 >>= λ o. Ok (v.0 ∷ o.0, o.1)) (values, rest) e in
       let y = bind_ok (values_read form.read count x.0.1) (λ o. Ok (x.0.0 ∷ o.0, o.1)) (values, rest) x.2 in
       let s = p.spelled bytes x.0.0 x.0.1 are x.1 in
       let t = values_spelled count x.0.1 y.0.0 y.0.1 (behind form bytes x.0.0 x.0.1 are s.0) y.1 in
-      subst (λ (r : List T × List ℕ). (bytes ≡ flat_map form.code r.0 ++ r.1) × AllByRecursion form.Fits r.0 × (length r.0 ≡ suc count)) (ok_is (x.0.0 ∷ y.0.0, y.0.1) (values, rest) y.2)
+      subst (λ (r : List T × List ℕ). (bytes ≡ flat_map form.code r.0 ++ r.1) × AllByRecursion form.HasCode r.0 × (length r.0 ≡ suc count)) (ok_is (x.0.0 ∷ y.0.0, y.0.1) (values, rest) y.2)
       (s.0 ∙ ap (λ (l : List ℕ). form.code x.0.0 ++ l) t.0 ∙ sym (append_assoc (form.code x.0.0) (flat_map form.code y.0.0) y.0.1), (s.1, t.1), ap suc t.2)
 
-  list_again : (values : List T) (rest : List ℕ) → length values < LIST_END → AllByRecursion form.Fits values → list_read form.read (list_code form.code values ++ rest) ≡ Ok (values, rest)
+  list_again : (values : List T) (rest : List ℕ) → length values < LIST_END → AllByRecursion form.HasCode values → list_read form.read (list_code form.code values ++ rest) ≡ Ok (values, rest)
   unfolding list_read
   list_again values rest lt f =
       rw (append_assoc (to_be_bytes w32 (length values)) (flat_map form.code values) rest, count_again (LIST_END - 1) (length values) (flat_map form.code values ++ rest) (omega (arith, lt)) (omega (arith, lt)), values_again values rest f) refl
 
-  list_spelled : (bytes : List ℕ) (values : List T) (rest : List ℕ) → AreBytes bytes → list_read form.read bytes ≡ Ok (values, rest) → (bytes ≡ list_code form.code values ++ rest) × ((length values < LIST_END) × AllByRecursion form.Fits values)
+  list_spelled : (bytes : List ℕ) (values : List T) (rest : List ℕ) → AreBytes bytes → list_read form.read bytes ≡ Ok (values, rest) → (bytes ≡ list_code form.code values ++ rest) × ((length values < LIST_END) × AllByRecursion form.HasCode values)
   unfolding list_read
   list_spelled bytes values rest are e =
       let x = bind_ok (count_read (LIST_END - 1) bytes) (λ count. values_read form.read count.0 count.1) (values, rest) e in
@@ -201,7 +201,7 @@ module _ {T : Type 0} (form : Form T) (p : IsLawful form) where
 -- ---- maps
 
 module _ {K V : Type 0} (cmp : K → K → Ordering) (laws : IsTotalOrder cmp) (key : Form K) (value : Form V) (p : IsLawful key) (q : IsLawful value) where
-  rising_again : (before : Option K) (k : K) (rest : List ℕ) → key.Fits k → rises cmp before k ≡ true → rising_read cmp key.read before (key.code k ++ rest) ≡ Ok (k, rest)
+  rising_again : (before : Option K) (k : K) (rest : List ℕ) → key.HasCode k → rises cmp before k ≡ true → rising_read cmp key.read before (key.code k ++ rest) ≡ Ok (k, rest)
   unfolding rising_read
   rising_again before k rest f up = rw (p.again k rest f, up) refl
 
@@ -214,7 +214,7 @@ module _ {K V : Type 0} (cmp : K → K → Ordering) (laws : IsTotalOrder cmp) (
   next_begins pair [] all = tt
   next_begins pair (next ∷ pairs) all = ap is_lt all.0
 
-  pairs_again : (before : Option K) (pairs : List (K × V)) (rest : List ℕ) → Begins before pairs → IsStrictlySortedBy cmp (keys_of pairs) → AllByRecursion (key ⊗ value).Fits pairs
+  pairs_again : (before : Option K) (pairs : List (K × V)) (rest : List ℕ) → Begins before pairs → IsStrictlySortedBy cmp (keys_of pairs) → AllByRecursion (key ⊗ value).HasCode pairs
       → pairs_read cmp key.read value.read (length pairs) before (flat_map (key ⊗ value).code pairs ++ rest) ≡ Ok (pairs, rest)
   unfolding pairs_read IsStrictlySortedBy
   pairs_again before [] rest up sorted f = refl
@@ -243,7 +243,7 @@ module _ {K V : Type 0} (cmp : K → K → Ordering) (laws : IsTotalOrder cmp) (
 
   pub record Read (count : ℕ) (before : Option K) (bytes : List ℕ) (pairs : List (K × V)) (rest : List ℕ) : Type 0 where
     pub is : bytes ≡ flat_map (key ⊗ value).code pairs ++ rest
-    pub fits : AllByRecursion (key ⊗ value).Fits pairs
+    pub fits : AllByRecursion (key ⊗ value).HasCode pairs
     pub len : length pairs ≡ count
     pub sorted : IsStrictlySortedBy cmp (keys_of pairs)
     pub above : Above before (keys_of pairs)
@@ -282,7 +282,7 @@ module _ {K V : Type 0} (cmp : K → K → Ordering) (laws : IsTotalOrder cmp) (
         above = above_next before x.0.0 (keys_of z.0.0) k.1 others.above;
       })
 
-  map_again : (pairs : List (K × V)) (rest : List ℕ) → (map_of cmp key value).Fits pairs → map_read cmp key.read value.read (list_code (key ⊗ value).code pairs ++ rest) ≡ Ok (pairs, rest)
+  map_again : (pairs : List (K × V)) (rest : List ℕ) → (map_of cmp key value).HasCode pairs → map_read cmp key.read value.read (list_code (key ⊗ value).code pairs ++ rest) ≡ Ok (pairs, rest)
   unfolding map_read
   map_again pairs rest f =
       let code = flat_map (key ⊗ value).code pairs in
@@ -292,7 +292,7 @@ module _ {K V : Type 0} (cmp : K → K → Ordering) (laws : IsTotalOrder cmp) (
       first [] = tt
       first (pair ∷ pairs) = refl
 
-  map_spelled : (bytes : List ℕ) (pairs : List (K × V)) (rest : List ℕ) → AreBytes bytes → map_read cmp key.read value.read bytes ≡ Ok (pairs, rest) → (bytes ≡ list_code (key ⊗ value).code pairs ++ rest) × (map_of cmp key value).Fits pairs
+  map_spelled : (bytes : List ℕ) (pairs : List (K × V)) (rest : List ℕ) → AreBytes bytes → map_read cmp key.read value.read bytes ≡ Ok (pairs, rest) → (bytes ≡ list_code (key ⊗ value).code pairs ++ rest) × (map_of cmp key value).HasCode pairs
   unfolding map_read
   map_spelled bytes pairs rest are e =
       let x = bind_ok (count_read (LIST_END - 1) bytes) (λ count. pairs_read cmp key.read value.read count.0 None count.1) (pairs, rest) e in

@@ -14,7 +14,7 @@ bytes_behind at bytes h i = rw (get_or-drop at bytes i 0) (h (at + i))
 
 module _ {T : Type 0} (form : Form T) (p : IsLawful form) (q : IsSteady form.read) (none : form.read [] ≡ Err 0) (bytes : List ℕ) (are : AreBytes bytes) (at : ℕ) (le : at ≤ length bytes) where
   -- a spelling has a byte
-  some_byte : (value : T) → form.Fits value → 0 < length (form.code value)
+  some_byte : (value : T) → form.HasCode value → 0 < length (form.code value)
   some_byte value f = by (form.code value) (ap form.read (sym (append-nil (form.code value))) ∙ p.again value [] f)
     where
       by : (code : List ℕ) → form.read code ≡ Ok (value, []) → 0 < length code

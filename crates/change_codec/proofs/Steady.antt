@@ -168,7 +168,7 @@ none_behind [] ys e = sym e
 none_behind (x ∷ xs) ys e = absurd (not_nil x (xs ++ ys) (sym e))
 
 module _ {T : Type 0} (form : Form T) (p : IsSteady form.read) (again : IsReadAgain form) where
-  none_read : (bytes : List ℕ) (left : ℕ) → form.read bytes ≡ Err left → (value : T) (rest : List ℕ) → form.Fits value → bytes ≡ form.code value ++ rest → ⊥
+  none_read : (bytes : List ℕ) (left : ℕ) → form.read bytes ≡ Err left → (value : T) (rest : List ℕ) → form.HasCode value → bytes ≡ form.code value ++ rest → ⊥
   none_read bytes left e value rest f is = never (form.read bytes) (value, rest) left (ap form.read is ∙ again value rest f) e
 
   pub refused_in_place : IsRefusedInPlace form
@@ -186,20 +186,20 @@ module _ {T : Type 0} (form : Form T) (p : IsSteady form.read) (again : IsReadAg
       }
 
   -- a value that is read off a front takes no more of the whole
-  cut_value : (value : T) (front more : List ℕ) → form.Fits value → form.code value ≡ front ++ more → more ≢ [] → (v : T) (rest : List ℕ) → form.read front ≡ Ok (v, rest) → ⊥
+  cut_value : (value : T) (front more : List ℕ) → form.HasCode value → form.code value ≡ front ++ more → more ≢ [] → (v : T) (rest : List ℕ) → form.read front ≡ Ok (v, rest) → ⊥
   cut_value value front more f is some v rest e =
       let t = p.took front v rest e in
       let split : form.code value ++ [] ≡ t.front ++ (rest ++ more) = append-nil (form.code value) ∙ is ∙ ap (λ (l : List ℕ). l ++ more) t.parts ∙ append_assoc t.front rest more in
       let same : (value, []) ≡ (v, rest ++ more) = ok_is (value, []) (v, rest ++ more) (sym (again value [] f) ∙ ap form.read split ∙ t.again (rest ++ more)) in
       some (none_behind rest more (ap (λ (r : T × List ℕ). r.1) same))
 
-  cut_stop : (value : T) (front more : List ℕ) → form.Fits value → form.code value ≡ front ++ more → (left : ℕ) → form.read front ≡ Err left → (s : Place form.read front left) (behind : List ℕ) → s.behind ≡ behind → form.read front ≡ Err 0
+  cut_stop : (value : T) (front more : List ℕ) → form.HasCode value → form.code value ≡ front ++ more → (left : ℕ) → form.read front ≡ Err left → (s : Place form.read front left) (behind : List ℕ) → s.behind ≡ behind → form.read front ≡ Err 0
   cut_stop value front more f is left e s [] none = e ∙ ap (λ (n : ℕ). Err n) (s.place ∙ ap (λ (l : List ℕ). length l) none)
   cut_stop value front more f is left e s (x ∷ xs) some =
       let left_over : s.behind ≡ [] → ⊥ = λ none. not_nil x xs (sym some ∙ none) in
       absurd (none_read (front ++ more) (length (s.behind ++ more)) (s.stays left_over more) value [] f (sym is ∙ sym (append-nil (form.code value))))
 
-  cut_by : (value : T) (front more : List ℕ) → form.Fits value → form.code value ≡ front ++ more → more ≢ [] → (r : Reading T) → form.read front ≡ r → form.read front ≡ Err 0
+  cut_by : (value : T) (front more : List ℕ) → form.HasCode value → form.code value ≡ front ++ more → more ≢ [] → (r : Reading T) → form.read front ≡ r → form.read front ≡ Err 0
   cut_by value front more f is some (Ok (v, rest)) e = absurd (cut_value value front more f is some v rest e)
   cut_by value front more f is some (Err left) e = let s = p.stops front left e in cut_stop value front more f is left e s s.behind refl
 

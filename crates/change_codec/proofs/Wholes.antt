@@ -20,13 +20,13 @@ all_read count (Ok (v, b ∷ rest)) value e = absurd cc
 all_read count (Err left) value e = absurd cc
 
 module _ {T : Type 0} (form : Form T) (p : IsLawful form) (bytes : List ℕ) where
-  is_found : (result : Result T CodecFault) → AreBytes bytes → Answers result (whole form bytes) → IfOk result (λ value. form.Fits value × (bytes ≡ form.code value))
+  is_found : (result : Result T CodecFault) → AreBytes bytes → Answers result (whole form bytes) → IfOk result (λ value. form.HasCode value × (bytes ≡ form.code value))
   is_found (Ok value) are e =
       let s = p.spelled bytes value [] are (all_read (length bytes) (form.read bytes) value e) in
       (s.1, s.0 ∙ append-nil (form.code value))
   is_found (Err f) are e = tt
 
-  is_only : (result : Result T CodecFault) → Answers result (whole form bytes) → (value : T) → form.Fits value → bytes ≡ form.code value → Answers result (Ok value)
+  is_only : (result : Result T CodecFault) → Answers result (whole form bytes) → (value : T) → form.HasCode value → bytes ≡ form.code value → Answers result (Ok value)
   is_only result e value f is =
       let read : form.read bytes ≡ Ok (value, []) = ap form.read (is ∙ sym (append-nil (form.code value))) ∙ p.again value [] f in
       subst (Answers result) (ap (whole_by (length bytes)) read) e

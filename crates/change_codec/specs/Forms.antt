@@ -21,7 +21,7 @@ abbrev pub ◌>>=◌ : {A B : Type 0} → Reading A → (A × List ℕ → Readi
 
 -- a form: which values it has spellings for, the one spelling of each, and how a value is read
 pub record Form (T : Type 0) : Type 1 where
-  pub Fits : T → Type 0
+  pub HasCode : T → Type 0
   pub code : T → List ℕ
   pub read : List ℕ → Reading T
 
@@ -31,7 +31,7 @@ front_read count bytes = if nat_lt (length bytes) count then Err 0 else Ok (take
 
 abbrev pub bytes_of : ℕ → Form (List ℕ)
 bytes_of count = record {
-  Fits = λ bytes. length bytes ≡ count;
+  HasCode = λ bytes. length bytes ≡ count;
   code = λ bytes. bytes;
   read = front_read count;
 }
@@ -44,7 +44,7 @@ number_read w bytes = do
 
 abbrev pub number : Width → Form ℕ
 number w = record {
-  Fits = λ n. n < 2 ^ (8 * byte_len w);
+  HasCode = λ n. n < 2 ^ (8 * byte_len w);
   code = to_be_bytes w;
   read = number_read w;
 }
@@ -57,7 +57,7 @@ signed_read w bytes = do
 
 abbrev pub signed : Width → Form ℤ
 signed w = record {
-  Fits = FitsSigned w;
+  HasCode = FitsSigned w;
   code = λ n. to_be_bytes w (cast_unsigned w n);
   read = signed_read w;
 }
@@ -75,7 +75,7 @@ flag_read (suc (suc n) ∷ rest) = Err (length (0 ∷ rest))
 
 abbrev pub flag : Form Bool
 flag = record {
-  Fits = λ _. Unit {0};
+  HasCode = λ _. Unit {0};
   code = flag_code;
   read = flag_read;
 }
@@ -95,7 +95,7 @@ text_read bytes = do
 
 abbrev pub text : Form (List ℕ)
 text = record {
-  Fits = λ t. IsUtf8 t × (length t ≤ TEXT_LIMIT);
+  HasCode = λ t. IsUtf8 t × (length t ≤ TEXT_LIMIT);
   code = λ t. to_be_bytes w32 (length t) ++ t;
   read = text_read;
 }
@@ -110,7 +110,7 @@ then_read first second bytes = do
 infixr 20 ◌⊗◌
 abbrev pub ◌⊗◌ : {A B : Type 0} → Form A → Form B → Form (A × B)
 first ⊗ second = record {
-  Fits = λ p. first.Fits p.0 × second.Fits p.1;
+  HasCode = λ p. first.HasCode p.0 × second.HasCode p.1;
   code = λ p. first.code p.0 ++ second.code p.1;
   read = then_read first.read second.read;
 }
@@ -123,7 +123,7 @@ made_read make parts bytes = do
 
 abbrev pub made : {A B : Type 0} → (A → B) → (B → A) → Form A → Form B
 made make parts form = record {
-  Fits = λ x. form.Fits (parts x);
+  HasCode = λ x. form.HasCode (parts x);
   code = λ x. form.code (parts x);
   read = made_read make form.read;
 }
@@ -138,7 +138,7 @@ three_read first second third bytes = do
 
 abbrev pub three : {A B C : Type 0} → Form A → Form B → Form C → Form (A × B × C)
 three a b c = record {
-  Fits = λ p. a.Fits p.0 × b.Fits p.1 × c.Fits p.2;
+  HasCode = λ p. a.HasCode p.0 × b.HasCode p.1 × c.HasCode p.2;
   code = λ p. a.code p.0 ++ b.code p.1 ++ c.code p.2;
   read = three_read a.read b.read c.read;
 }
@@ -153,7 +153,7 @@ four_read first second third fourth bytes = do
 
 abbrev pub four : {A B C D : Type 0} → Form A → Form B → Form C → Form D → Form (A × B × C × D)
 four a b c d = record {
-  Fits = λ p. a.Fits p.0 × b.Fits p.1 × c.Fits p.2 × d.Fits p.3;
+  HasCode = λ p. a.HasCode p.0 × b.HasCode p.1 × c.HasCode p.2 × d.HasCode p.3;
   code = λ p. a.code p.0 ++ b.code p.1 ++ c.code p.2 ++ d.code p.3;
   read = four_read a.read b.read c.read d.read;
 }
@@ -173,7 +173,7 @@ option_read read (suc (suc n) ∷ rest) = Err (length (0 ∷ rest))
 
 abbrev pub optional : {T : Type 0} → Form T → Form (Option T)
 optional form = record {
-  Fits = λ o. IfSome o form.Fits;
+  HasCode = λ o. IfSome o form.HasCode;
   code = option_code form.code;
   read = option_read form.read;
 }
@@ -197,7 +197,7 @@ list_code code values = to_be_bytes w32 (length values) ++ flat_map code values
 
 abbrev pub list_of : {T : Type 0} → Form T → Form (List T)
 list_of form = record {
-  Fits = λ values. (length values < LIST_END) × AllByRecursion form.Fits values;
+  HasCode = λ values. (length values < LIST_END) × AllByRecursion form.HasCode values;
   code = list_code form.code;
   read = list_read form.read;
 }
@@ -236,7 +236,7 @@ map_read cmp key_read value_read bytes = do
 
 abbrev pub map_of : {K V : Type 0} → (K → K → Ordering) → Form K → Form V → Form (List (K × V))
 map_of cmp key value = record {
-  Fits = λ pairs. (length pairs < LIST_END) × IsStrictlySortedBy cmp (keys_of pairs) × AllByRecursion (key ⊗ value).Fits pairs;
+  HasCode = λ pairs. (length pairs < LIST_END) × IsStrictlySortedBy cmp (keys_of pairs) × AllByRecursion (key ⊗ value).HasCode pairs;
   code = list_code (key ⊗ value).code;
   read = map_read cmp key.read value.read;
 }

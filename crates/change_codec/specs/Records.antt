@@ -93,9 +93,9 @@ abbrev pub stat_str : Form (ℤ × List ℕ × ℤ × ℤ)
 stat_str = four (signed w64) (bytes_of 8) (signed w64) (signed w64)
 
 abbrev pub stat_fits : StatValue → Type 0
-stat_fits (stat.Flags trues falses nulls) = stat_flags.Fits (trues, falses, nulls)
-stat_fits (stat.Long low high nulls distinct) = stat_long.Fits (low, high, nulls, distinct)
-stat_fits (stat.Str longest average nulls distinct) = stat_str.Fits (longest, average, nulls, distinct)
+stat_fits (stat.Flags trues falses nulls) = stat_flags.HasCode (trues, falses, nulls)
+stat_fits (stat.Long low high nulls distinct) = stat_long.HasCode (low, high, nulls, distinct)
+stat_fits (stat.Str longest average nulls distinct) = stat_str.HasCode (longest, average, nulls, distinct)
 
 abbrev pub stat_code : StatValue → List ℕ
 stat_code (stat.Flags trues falses nulls) = tag.flag_stats ∷ stat_flags.code (trues, falses, nulls)
@@ -110,7 +110,7 @@ stat_tags =
     []
 
 abbrev pub stat_value : Form StatValue
-stat_value = record { Fits = stat_fits; code = stat_code; read = tagged_read stat_tags }
+stat_value = record { HasCode = stat_fits; code = stat_code; read = tagged_read stat_tags }
 
 abbrev pub stat_rec : Form StatRec
 stat_rec = made (λ p. record { analyzed = p.0; value = p.1 }) (λ r. (r.analyzed, r.value)) (signed w64 ⊗ stat_value)
@@ -165,14 +165,14 @@ abbrev pub move_part : Form ((List ℕ × ℕ) × (List (List ℕ) × List (List
 move_part = (text ⊗ number w64) ⊗ three texts texts part_rec
 
 abbrev pub op_fits : Version → Op → Type 0
-op_fits version (op.PutDb rec) = (db_rec version).Fits rec
+op_fits version (op.PutDb rec) = (db_rec version).HasCode rec
 op_fits version op.DropDb = Unit {0}
-op_fits version (op.PutTable table born rec) = (put_table version).Fits (table, born, rec)
-op_fits version (op.DropTable table born) = drop_table.Fits (table, born)
-op_fits version (op.MoveTable table born to rec) = (move_table version).Fits (table, born, to, rec)
-op_fits version (op.PutPart table born values rec) = put_part.Fits (table, born, values, rec)
-op_fits version (op.DropPart table born values) = drop_part.Fits (table, born, values)
-op_fits version (op.MovePart table born values to rec) = move_part.Fits ((table, born), (values, to, rec))
+op_fits version (op.PutTable table born rec) = (put_table version).HasCode (table, born, rec)
+op_fits version (op.DropTable table born) = drop_table.HasCode (table, born)
+op_fits version (op.MoveTable table born to rec) = (move_table version).HasCode (table, born, to, rec)
+op_fits version (op.PutPart table born values rec) = put_part.HasCode (table, born, values, rec)
+op_fits version (op.DropPart table born values) = drop_part.HasCode (table, born, values)
+op_fits version (op.MovePart table born values to rec) = move_part.HasCode ((table, born), (values, to, rec))
 
 abbrev pub op_code : Version → Op → List ℕ
 op_code version (op.PutDb rec) = tag.put_db_op ∷ (db_rec version).code rec
@@ -197,7 +197,7 @@ op_tags version =
     []
 
 abbrev pub operation : Version → Form Op
-operation version = record { Fits = op_fits version; code = op_code version; read = tagged_read (op_tags version) }
+operation version = record { HasCode = op_fits version; code = op_code version; read = tagged_read (op_tags version) }
 
 -- the kinds of events, each a tag alone
 abbrev pub kind_code : EventKind → List ℕ
@@ -225,7 +225,7 @@ kind_tags =
     []
 
 abbrev pub event_kind : Form EventKind
-event_kind = record { Fits = λ _. Unit {0}; code = kind_code; read = tagged_read kind_tags }
+event_kind = record { HasCode = λ _. Unit {0}; code = kind_code; read = tagged_read kind_tags }
 
 abbrev pub change : Version → Form Change
 change version = made (λ p. record { kind = p.0; db = p.1; db_born = p.2; ops = p.3 }) (λ c. (c.kind, c.db, c.db_born, c.ops)) (four event_kind text (number w64) (list_of (operation version)))
@@ -245,9 +245,9 @@ abbrev pub part_item : Form ((ℕ × List ℕ) × (ℕ × List (List ℕ) × Par
 part_item = (number w64 ⊗ text) ⊗ three (number w64) texts part_rec
 
 abbrev pub item_fits : Version → Item → Type 0
-item_fits version (item.Db at born rec) = (db_item version).Fits (at, born, rec)
-item_fits version (item.Table at table born rec) = (table_item version).Fits (at, table, born, rec)
-item_fits version (item.Part at table born values rec) = part_item.Fits ((at, table), (born, values, rec))
+item_fits version (item.Db at born rec) = (db_item version).HasCode (at, born, rec)
+item_fits version (item.Table at table born rec) = (table_item version).HasCode (at, table, born, rec)
+item_fits version (item.Part at table born values rec) = part_item.HasCode ((at, table), (born, values, rec))
 
 abbrev pub item_code : Version → Item → List ℕ
 item_code version (item.Db at born rec) = tag.db_item ∷ (db_item version).code (at, born, rec)
@@ -262,16 +262,16 @@ item_tags version =
     []
 
 abbrev pub an_item : Version → Form Item
-an_item version = record { Fits = item_fits version; code = item_code version; read = tagged_read (item_tags version) }
+an_item version = record { HasCode = item_fits version; code = item_code version; read = tagged_read (item_tags version) }
 
 -- how far a replica came: a tag, and one number or two
 abbrev pub two_numbers : Form (ℕ × ℕ)
 two_numbers = number w64 ⊗ number w64
 
 abbrev pub phase_fits : Phase → Type 0
-phase_fits (phase.Items dump count) = two_numbers.Fits (dump, count)
-phase_fits (phase.Events dump at) = two_numbers.Fits (dump, at)
-phase_fits (phase.Live at) = (number w64).Fits at
+phase_fits (phase.Items dump count) = two_numbers.HasCode (dump, count)
+phase_fits (phase.Events dump at) = two_numbers.HasCode (dump, at)
+phase_fits (phase.Live at) = (number w64).HasCode at
 
 abbrev pub phase_code : Phase → List ℕ
 phase_code (phase.Items dump count) = tag.items_phase ∷ two_numbers.code (dump, count)
@@ -286,7 +286,7 @@ phase_tags =
     []
 
 abbrev pub a_phase : Form Phase
-a_phase = record { Fits = phase_fits; code = phase_code; read = tagged_read phase_tags }
+a_phase = record { HasCode = phase_fits; code = phase_code; read = tagged_read phase_tags }
 
 abbrev pub replica_row : Form ReplicaRow
 replica_row = made (λ p. record { source = p.0; source_db = p.1; phase = p.2 }) (λ r. (r.source, r.source_db, r.phase)) (three (bytes_of 16) text a_phase)
@@ -299,10 +299,10 @@ abbrev pub load_step : Version → Form (List ℕ × ReplicaRow × Bool × List 
 load_step version = four text replica_row flag (list_of (marked version))
 
 abbrev pub entry_fits : Version → Entry → Type 0
-entry_fits version (entry.Event kept) = (event version).Fits kept
-entry_fits version (entry.DumpBegun dump) = (number w64).Fits dump
-entry_fits version (entry.Trimmed first) = (number w64).Fits first
-entry_fits version (entry.LoadStep target row clear ops) = (load_step version).Fits (target, row, clear, ops)
+entry_fits version (entry.Event kept) = (event version).HasCode kept
+entry_fits version (entry.DumpBegun dump) = (number w64).HasCode dump
+entry_fits version (entry.Trimmed first) = (number w64).HasCode first
+entry_fits version (entry.LoadStep target row clear ops) = (load_step version).HasCode (target, row, clear, ops)
 
 abbrev pub entry_code : Version → Entry → List ℕ
 entry_code version (entry.Event kept) = tag.event_entry ∷ (event version).code kept
@@ -319,4 +319,4 @@ entry_tags version =
     []
 
 abbrev pub an_entry : Version → Form Entry
-an_entry version = record { Fits = entry_fits version; code = entry_code version; read = tagged_read (entry_tags version) }
+an_entry version = record { HasCode = entry_fits version; code = entry_code version; read = tagged_read (entry_tags version) }

@@ -41,9 +41,9 @@ Answers (Err f) spelled = FaultIs f spelled
 -- all that a call answers about the value that all of the bytes spell
 pub record AnswersWhole {T : Type 0} (form : Form T) (bytes : List ℕ) (result : Result T CodecFault) : Type 0 where
   -- what is answered is spelled so
-  pub found : IfOk result (λ value. form.Fits value × (bytes ≡ form.code value))
+  pub found : IfOk result (λ value. form.HasCode value × (bytes ≡ form.code value))
   -- what is spelled so is answered
-  pub only : (value : T) → form.Fits value → bytes ≡ form.code value → Answers result (Ok value)
+  pub only : (value : T) → form.HasCode value → bytes ≡ form.code value → Answers result (Ok value)
   -- which fault it is
   pub exact : Answers result (whole form bytes)
 
@@ -63,7 +63,7 @@ GoesForward at count (Err (fault.BadRecord offset)) = (at ≤ offset) × (offset
 
 -- what was written is read again, whatever follows it
 abbrev pub IsReadAgain : {T : Type 0} → Form T → Type 0
-IsReadAgain {T} form = (value : T) (rest : List ℕ) → form.Fits value → form.read (form.code value ++ rest) ≡ Ok (value, rest)
+IsReadAgain {T} form = (value : T) (rest : List ℕ) → form.HasCode value → form.read (form.code value ++ rest) ≡ Ok (value, rest)
 
 -- each is a byte
 abbrev pub AreBytes : List ℕ → Type 0
@@ -71,11 +71,11 @@ AreBytes bytes = (i : ℕ) → get_or bytes i 0 < 256
 
 -- what is read is spelled by the bytes that were taken
 abbrev pub IsSpelled : {T : Type 0} → Form T → Type 0
-IsSpelled {T} form = (bytes : List ℕ) (value : T) (rest : List ℕ) → AreBytes bytes → form.read bytes ≡ Ok (value, rest) → (bytes ≡ form.code value ++ rest) × form.Fits value
+IsSpelled {T} form = (bytes : List ℕ) (value : T) (rest : List ℕ) → AreBytes bytes → form.read bytes ≡ Ok (value, rest) → (bytes ≡ form.code value ++ rest) × form.HasCode value
 
 -- no spelling begins another: two values whose spellings stand at the front of the same bytes are one
 abbrev pub HasOneSpelling : {T : Type 0} → Form T → Type 0
-HasOneSpelling {T} form = (a b : T) (x y : List ℕ) → form.Fits a → form.Fits b → form.code a ++ x ≡ form.code b ++ y → (a ≡ b) × (x ≡ y)
+HasOneSpelling {T} form = (a b : T) (x y : List ℕ) → form.HasCode a → form.HasCode b → form.code a ++ x ≡ form.code b ++ y → (a ≡ b) × (x ≡ y)
 
 -- The place at which reading stops, with so many bytes left behind it.
 pub record Refuses {T : Type 0} (form : Form T) (bytes : List ℕ) (left : ℕ) : Type 0 where
@@ -86,9 +86,9 @@ pub record Refuses {T : Type 0} (form : Form T) (bytes : List ℕ) (left : ℕ) 
   -- the bytes before it, by themselves, only end too soon
   pub early : form.read before ≡ Err 0
   -- no spelling stands at the front of the bytes
-  pub none : (value : T) (rest : List ℕ) → form.Fits value → bytes ≡ form.code value ++ rest → ⊥
+  pub none : (value : T) (rest : List ℕ) → form.HasCode value → bytes ≡ form.code value ++ rest → ⊥
   -- where bytes are left, none begins with the bytes either
-  pub final : behind ≢ [] → (value : T) (more : List ℕ) → form.Fits value → form.code value ≡ bytes ++ more → ⊥
+  pub final : behind ≢ [] → (value : T) (more : List ℕ) → form.HasCode value → form.code value ≡ bytes ++ more → ⊥
   -- and whatever follows them, reading stops at this place
   pub stays : behind ≢ [] → (more : List ℕ) → form.read (bytes ++ more) ≡ Err (length (behind ++ more))
 
@@ -98,4 +98,4 @@ IsRefusedInPlace {T} form = (bytes : List ℕ) (left : ℕ) → form.read bytes 
 
 -- a spelling that is cut before its end is refused where it ends
 abbrev pub IsCutAtItsEnd : {T : Type 0} → Form T → Type 0
-IsCutAtItsEnd {T} form = (value : T) (front more : List ℕ) → form.Fits value → form.code value ≡ front ++ more → more ≢ [] → form.read front ≡ Err 0
+IsCutAtItsEnd {T} form = (value : T) (front more : List ℕ) → form.HasCode value → form.code value ≡ front ++ more → more ≢ [] → form.read front ≡ Err 0

@@ -21,7 +21,7 @@ use std::alloc::Global;
 /// Adds the spelling of an event to `out`. After `NoMemory` `out` begins with what it held.
 pub fn put_event(value: &Event, out: &mut Bytes) -> Result<(), NoMemory>
     ensures gathers { Gathers out.old out.new result ((event newest).code value.now) }
-    ensures fits { OnOk result ((event newest).Fits value.now) }
+    ensures fits { OnOk result ((event newest).HasCode value.now) }
 {
     value.put(out)
 }
@@ -29,7 +29,7 @@ pub fn put_event(value: &Event, out: &mut Bytes) -> Result<(), NoMemory>
 /// Adds the spelling of an item to `out`. After `NoMemory` `out` begins with what it held.
 pub fn put_item(value: &Item, out: &mut Bytes) -> Result<(), NoMemory>
     ensures gathers { Gathers out.old out.new result ((an_item newest).code value.now) }
-    ensures fits { OnOk result ((an_item newest).Fits value.now) }
+    ensures fits { OnOk result ((an_item newest).HasCode value.now) }
 {
     value.put(out)
 }
@@ -37,7 +37,7 @@ pub fn put_item(value: &Item, out: &mut Bytes) -> Result<(), NoMemory>
 /// Adds the spelling of a list of items to `out`. After `NoMemory` `out` begins with what it held.
 pub fn put_items(value: &Items, out: &mut Bytes) -> Result<(), NoMemory>
     ensures gathers { Gathers out.old out.new result ((list_of (an_item newest)).code value.now) }
-    ensures fits { OnOk result ((list_of (an_item newest)).Fits value.now) }
+    ensures fits { OnOk result ((list_of (an_item newest)).HasCode value.now) }
 {
     value.put(out)
 }
@@ -45,7 +45,7 @@ pub fn put_items(value: &Items, out: &mut Bytes) -> Result<(), NoMemory>
 /// Adds the spelling of a list of events to `out`. After `NoMemory` `out` begins with what it held.
 pub fn put_events(value: &Events, out: &mut Bytes) -> Result<(), NoMemory>
     ensures gathers { Gathers out.old out.new result ((list_of (event newest)).code value.now) }
-    ensures fits { OnOk result ((list_of (event newest)).Fits value.now) }
+    ensures fits { OnOk result ((list_of (event newest)).HasCode value.now) }
 {
     value.put(out)
 }
@@ -53,7 +53,7 @@ pub fn put_events(value: &Events, out: &mut Bytes) -> Result<(), NoMemory>
 /// Adds the spelling of a journal's entry to `out`. After `NoMemory` `out` begins with what it held.
 pub fn put_entry(value: &Entry, out: &mut Bytes) -> Result<(), NoMemory>
     ensures gathers { Gathers out.old out.new result ((an_entry newest).code value.now) }
-    ensures fits { OnOk result ((an_entry newest).Fits value.now) }
+    ensures fits { OnOk result ((an_entry newest).HasCode value.now) }
 {
     value.put(out)
 }

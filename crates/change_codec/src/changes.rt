@@ -143,7 +143,7 @@ fn get_move_part(alloc: Global, version: Version, bytes: &[u8]) -> Result<(Op, &
 }
 
 impl Put for Op {
-    ghost Fits = { op_fits newest };
+    ghost HasCode = { op_fits newest };
 
     ghost code = { op_code newest };
 
@@ -203,7 +203,7 @@ impl Get for EventKind {
 }
 
 impl Put for EventKind {
-    ghost Fits = { λ _. Unit {0} };
+    ghost HasCode = { λ _. Unit {0} };
 
     ghost code = { kind_code };
 
@@ -244,7 +244,7 @@ impl Get for Change {
 }
 
 impl Put for Change {
-    ghost Fits = { (change newest).Fits };
+    ghost HasCode = { (change newest).HasCode };
 
     ghost code = { (change newest).code };
 
@@ -266,7 +266,7 @@ impl Get for Event {
 }
 
 impl Put for Event {
-    ghost Fits = { (event newest).Fits };
+    ghost HasCode = { (event newest).HasCode };
 
     ghost code = { (event newest).code };
 

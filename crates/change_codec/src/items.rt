@@ -76,7 +76,7 @@ fn get_part(alloc: Global, version: Version, bytes: &[u8]) -> Result<(Item, &[u8
 }
 
 impl Put for Item {
-    ghost Fits = { item_fits newest };
+    ghost HasCode = { item_fits newest };
 
     ghost code = { item_code newest };
 

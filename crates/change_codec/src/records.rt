@@ -30,7 +30,7 @@ impl Get for DbRec {
 }
 
 impl Put for DbRec {
-    ghost Fits = { (db_rec newest).Fits };
+    ghost HasCode = { (db_rec newest).HasCode };
 
     ghost code = { (db_rec newest).code };
 
@@ -81,7 +81,7 @@ impl Get for TableRec {
 }
 
 impl Put for TableRec {
-    ghost Fits = { (table_rec newest).Fits };
+    ghost HasCode = { (table_rec newest).HasCode };
 
     ghost code = { (table_rec newest).code };
 
@@ -117,7 +117,7 @@ impl Get for PartRec {
 }
 
 impl Put for PartRec {
-    ghost Fits = { part_rec.Fits };
+    ghost HasCode = { part_rec.HasCode };
 
     ghost code = { part_rec.code };
 

@@ -63,7 +63,7 @@ fn get_live(alloc: Global, version: Version, bytes: &[u8]) -> Result<(Phase, &[u
 }
 
 impl Put for Phase {
-    ghost Fits = { phase_fits };
+    ghost HasCode = { phase_fits };
 
     ghost code = { phase_code };
 
@@ -99,7 +99,7 @@ impl Get for ReplicaRow {
 }
 
 impl Put for ReplicaRow {
-    ghost Fits = { replica_row.Fits };
+    ghost HasCode = { replica_row.HasCode };
 
     ghost code = { replica_row.code };
 
@@ -121,7 +121,7 @@ impl Get for Marked {
 }
 
 impl Put for Marked {
-    ghost Fits = { (marked newest).Fits };
+    ghost HasCode = { (marked newest).HasCode };
 
     ghost code = { (marked newest).code };
 
@@ -195,7 +195,7 @@ fn get_load_step(alloc: Global, version: Version, bytes: &[u8]) -> Result<(Entry
 }
 
 impl Put for Entry {
-    ghost Fits = { entry_fits newest };
+    ghost HasCode = { entry_fits newest };
 
     ghost code = { entry_code newest };
 

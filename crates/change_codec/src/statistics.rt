@@ -86,7 +86,7 @@ fn get_str(alloc: Global, version: Version, bytes: &[u8]) -> Result<(StatValue, 
 }
 
 impl Put for StatValue {
-    ghost Fits = { stat_fits };
+    ghost HasCode = { stat_fits };
 
     ghost code = { stat_code };
 
@@ -126,7 +126,7 @@ impl Get for StatRec {
 }
 
 impl Put for StatRec {
-    ghost Fits = { stat_rec.Fits };
+    ghost HasCode = { stat_rec.HasCode };
 
     ghost code = { stat_rec.code };
 

@@ -25,7 +25,7 @@ impl Get for Column {
 }
 
 impl Put for Column {
-    ghost Fits = { column.Fits };
+    ghost HasCode = { column.HasCode };
 
     ghost code = { column.code };
 
@@ -47,7 +47,7 @@ impl Get for Order {
 }
 
 impl Put for Order {
-    ghost Fits = { order.Fits };
+    ghost HasCode = { order.HasCode };
 
     ghost code = { order.code };
 
@@ -69,7 +69,7 @@ impl Get for Serde {
 }
 
 impl Put for Serde {
-    ghost Fits = { serde.Fits };
+    ghost HasCode = { serde.HasCode };
 
     ghost code = { serde.code };
 
@@ -98,7 +98,7 @@ impl Get for Skew {
 }
 
 impl Put for Skew {
-    ghost Fits = { skew.Fits };
+    ghost HasCode = { skew.HasCode };
 
     ghost code = { skew.code };
 
@@ -150,7 +150,7 @@ impl Get for Storage {
 }
 
 impl Put for Storage {
-    ghost Fits = { storage.Fits };
+    ghost HasCode = { storage.HasCode };
 
     ghost code = { storage.code };
 

@@ -47,7 +47,7 @@ impl<A: Get, B: Get, C: Get, D: Get> Get for (A, B, C, D) {
 }
 
 impl<'a, T: Put> Put for &'a T {
-    ghost Fits = { λ r. T.Fits r.now };
+    ghost HasCode = { λ r. T.HasCode r.now };
 
     ghost code = { λ r. T.code r.now };
 
@@ -57,7 +57,7 @@ impl<'a, T: Put> Put for &'a T {
 }
 
 impl<A: Put, B: Put> Put for (A, B) {
-    ghost Fits = { λ p. A.Fits p.0 × B.Fits p.1 };
+    ghost HasCode = { λ p. A.HasCode p.0 × B.HasCode p.1 };
 
     ghost code = { λ p. A.code p.0 ++ B.code p.1 };
 
@@ -68,7 +68,7 @@ impl<A: Put, B: Put> Put for (A, B) {
 }
 
 impl<A: Put, B: Put, C: Put> Put for (A, B, C) {
-    ghost Fits = { λ p. A.Fits p.0 × B.Fits p.1 × C.Fits p.2 };
+    ghost HasCode = { λ p. A.HasCode p.0 × B.HasCode p.1 × C.HasCode p.2 };
 
     ghost code = { λ p. A.code p.0 ++ B.code p.1 ++ C.code p.2 };
 
@@ -80,7 +80,7 @@ impl<A: Put, B: Put, C: Put> Put for (A, B, C) {
 }
 
 impl<A: Put, B: Put, C: Put, D: Put> Put for (A, B, C, D) {
-    ghost Fits = { λ p. A.Fits p.0 × B.Fits p.1 × C.Fits p.2 × D.Fits p.3 };
+    ghost HasCode = { λ p. A.HasCode p.0 × B.HasCode p.1 × C.HasCode p.2 × D.HasCode p.3 };
 
     ghost code = { λ p. A.code p.0 ++ B.code p.1 ++ C.code p.2 ++ D.code p.3 };
 

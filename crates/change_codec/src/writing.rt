@@ -17,7 +17,7 @@ use cat_types::{Bytes, ListOf, MapOf, NoMemory, Text};
 /// A value that has a spelling in bytes.
 pub trait Put {
     /// Whether it has one: what is written does.
-    ghost Fits: { Self → Type 0 };
+    ghost HasCode: { Self → Type 0 };
 
     /// The spelling.
     ghost code: { Self → List ℕ };
@@ -25,7 +25,7 @@ pub trait Put {
     /// Adds the spelling. After `NoMemory` the bytes begin with what they were.
     fn put(&self, out: &mut Bytes) -> Result<(), NoMemory>
         ensures gathers { Gathers out.old out.new result (code self.now) }
-        ensures fits { OnOk result (Fits self.now) };
+        ensures fits { OnOk result (HasCode self.now) };
 }
 
 // Adds bytes.
@@ -45,7 +45,7 @@ pub fn put_tag(tag: u8, out: &mut Bytes) -> Result<(), NoMemory>
 /// Adds a tag, and what it stands before.
 pub fn put_tagged<P: Put>(tag: u8, parts: &P, out: &mut Bytes) -> Result<(), NoMemory>
     ensures gathers { Gathers out.old out.new result (tag ∷ P.code parts.now) }
-    ensures fits { OnOk result (P.Fits parts.now) }
+    ensures fits { OnOk result (P.HasCode parts.now) }
 {
     put_tag(tag, out)?;
     parts.put(out)
@@ -60,7 +60,7 @@ fn put_count(count: usize, out: &mut Bytes) -> Result<(), NoMemory>
 }
 
 impl Put for u64 {
-    ghost Fits = { λ n. n < 2 ^ 64 };
+    ghost HasCode = { λ n. n < 2 ^ 64 };
 
     ghost code = { to_be_bytes w64 };
 
@@ -71,7 +71,7 @@ impl Put for u64 {
 }
 
 impl Put for i32 {
-    ghost Fits = { FitsSigned w32 };
+    ghost HasCode = { FitsSigned w32 };
 
     ghost code = { λ n. to_be_bytes w32 (cast_unsigned w32 n) };
 
@@ -82,7 +82,7 @@ impl Put for i32 {
 }
 
 impl Put for i64 {
-    ghost Fits = { FitsSigned w64 };
+    ghost HasCode = { FitsSigned w64 };
 
     ghost code = { λ n. to_be_bytes w64 (cast_unsigned w64 n) };
 
@@ -93,7 +93,7 @@ impl Put for i64 {
 }
 
 impl Put for bool {
-    ghost Fits = { λ _. Unit {0} };
+    ghost HasCode = { λ _. Unit {0} };
 
     ghost code = { flag_code };
 
@@ -107,7 +107,7 @@ impl Put for bool {
 }
 
 impl<const N: usize> Put for [u8; N] {
-    ghost Fits = { λ bytes. length bytes ≡ N };
+    ghost HasCode = { λ bytes. length bytes ≡ N };
 
     ghost code = { λ bytes. bytes };
 
@@ -117,7 +117,7 @@ impl<const N: usize> Put for [u8; N] {
 }
 
 impl Put for Text {
-    ghost Fits = { λ t. IsUtf8 t × (length t ≤ TEXT_LIMIT) };
+    ghost HasCode = { λ t. IsUtf8 t × (length t ≤ TEXT_LIMIT) };
 
     ghost code = { λ t. to_be_bytes w32 (length t) ++ t };
 
@@ -129,7 +129,7 @@ impl Put for Text {
 }
 
 impl<T: Put> Put for Option<T> {
-    ghost Fits = { λ o. IfSome o T.Fits };
+    ghost HasCode = { λ o. IfSome o T.HasCode };
 
     ghost code = { option_code T.code };
 
@@ -147,7 +147,7 @@ impl<T: Put> Put for Option<T> {
 // Adds values, one behind the other.
 fn put_values<T: Put>(values: &[T], out: &mut Bytes) -> Result<(), NoMemory>
     ensures gathers { Gathers out.old out.new result (flat_map T.code values.now) }
-    ensures fits { OnOk result (AllByRecursion T.Fits values.now) }
+    ensures fits { OnOk result (AllByRecursion T.HasCode values.now) }
 {
     for value in values {
         value.put(out)?;
@@ -156,7 +156,7 @@ fn put_values<T: Put>(values: &[T], out: &mut Bytes) -> Result<(), NoMemory>
 }
 
 impl<T: Put> Put for ListOf<T> {
-    ghost Fits = { λ values. (length values < LIST_END) × AllByRecursion T.Fits values };
+    ghost HasCode = { λ values. (length values < LIST_END) × AllByRecursion T.HasCode values };
 
     ghost code = { list_code T.code };
 
@@ -170,7 +170,7 @@ impl<T: Put> Put for ListOf<T> {
 // Adds the pairs of a map, one behind the other.
 fn put_pairs<K: Ord + Put, V: Put>(map: &MapOf<K, V>, out: &mut Bytes) -> Result<(), NoMemory>
     ensures gathers { Gathers out.old out.new result (flat_map (λ p. K.code p.0 ++ V.code p.1) map.now) }
-    ensures fits { OnOk result (AllByRecursion (λ p. K.Fits p.0 × V.Fits p.1) map.now) }
+    ensures fits { OnOk result (AllByRecursion (λ p. K.HasCode p.0 × V.HasCode p.1) map.now) }
 {
     for (key, value) in map.iter() {
         (key, value).put(out)?;
@@ -179,7 +179,7 @@ fn put_pairs<K: Ord + Put, V: Put>(map: &MapOf<K, V>, out: &mut Bytes) -> Result
 }
 
 impl<K: Ord + Put, V: Put> Put for MapOf<K, V> {
-    ghost Fits = { λ pairs. (length pairs < LIST_END) × IsStrictlySortedBy K.cmp (keys_of pairs) × AllByRecursion (λ p. K.Fits p.0 × V.Fits p.1) pairs };
+    ghost HasCode = { λ pairs. (length pairs < LIST_END) × IsStrictlySortedBy K.cmp (keys_of pairs) × AllByRecursion (λ p. K.HasCode p.0 × V.HasCode p.1) pairs };
 
     ghost code = { list_code (λ p. K.code p.0 ++ V.code p.1) };
 

@@ -4,4 +4,4 @@ use Rattle.change_codec.proofs.writing.put_values.Given as goal
 
 abbrev pub invariant-loop-value : goal.invariant-loop-value
 invariant-loop-value g l =
-    (l.out ≡ l.fn.out ++ flat_map g.T.Put.code (take l.value-index l.values)) × AllByRecursion g.T.Put.Fits (take l.value-index l.values)
+    (l.out ≡ l.fn.out ++ flat_map g.T.Put.code (take l.value-index l.values)) × AllByRecursion g.T.Put.HasCode (take l.value-index l.values)
