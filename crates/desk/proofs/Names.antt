@@ -1,81 +1,53 @@
--- The names of databases rise along a history.
-use Rattle.std.proofs.Common.{◌≡◌, ℕ, List, [], ◌∷◌, refl, sym, ◌∙◌, ap, subst}
-use Rattle.std.specs.BTreeMap.{insert_entry}
-use Rattle.std.specs.Cmp.{IsTotalOrder}
-use Rattle.std.specs.Cmp.Lexicographic.{slice_cmp, nat_list_cmp_total}
-use Rattle.std.specs.List.{AllByRecursion}
+-- The names of databases, and those of the tables of each, rise along a history.
+use Rattle.std.proofs.Common.{◌≡◌, ℕ, List, [], ◌∷◌, Option, Some, None, refl, sym, subst}
 use Rattle.std.specs.List.Sorted.{IsStrictlySortedBy}
-use Rattle.std.specs.Map.{keys_of}
-use Rattle.std.specs.Ordering.{match_ordering, nat_cmp, ordering_reverse}
-use Rattle.std.specs.declared.cmp.Ordering.{Ordering}
-use Rattle.std.specs.declared.cmp.Ordering.TheVariants.{Less, Equal, Greater}
 use Rattle.cat_types.specs.declared.changes.Event.{Event}
 use Rattle.cat_types.specs.declared.changes.Op.{Op}
 use Rattle.cat_types.specs.declared.changes.Op.TheVariants.{DropDb, DropPart, DropTable, MovePart, MoveTable, PutDb, PutPart, PutTable}
-use Rattle.catalogue.specs.Catalogue.{Catalogue, new_catalogue}
-use Rattle.catalogue.specs.Changes.{done, done_op, done_ops}
-use Rattle.desk.specs.History.{events_from, point_of}
-use Rattle.desk.specs.Laws.{NamesGoOnRising, NamesRise, NamesOfNewStoresRise, catalogue_after}
+use Rattle.catalogue.specs.Catalogue.{Catalogue, database, is_name, new_catalogue}
+use Rattle.catalogue.specs.Changes.{changed_in, changed_tables, done, done_op, done_ops, put_table, with_record, with_tables, without_table}
+use Rattle.catalogue.specs.declared.held.HeldDb.{HeldDb}
+use Rattle.catalogue.specs.declared.held.HeldTable.{HeldTable}
+use Rattle.desk.specs.History.{Transition, events_from, point_after, point_of}
+use Rattle.desk.specs.Laws.{AreRising, NamesGoOnRising, NamesRise, NamesOfNewStoresRise, TableNamesGoOnRising, TableNamesOfNewStoresRise, TableNamesRise, catalogue_after}
 use Rattle.desk.specs.State.{start}
 use Rattle.desk.proofs.Events.{always_together}
+use Rattle.desk.proofs.Rising.{each_put, each_removed, each_set, no_names, one_found, with_name, with_other_value, without_name}
 
--- ---- a list of entries
+-- ---- along a history
 
-module _ {K : Type 0} (R : K → K → Ordering) (laws : IsTotalOrder R) where
-  below_all : (k x : K) (ys : List K) → R k x ≡ Less → AllByRecursion (λ y. R x y ≡ Less) ys → AllByRecursion (λ y. R k y ≡ Less) ys
-  below_all k x [] less all = tt
-  below_all k x (y ∷ ys) less all = (laws.trans k x y less all.0, below_all k x ys less all.1)
+-- what each operation keeps all of a history keeps
+module _ (P : Catalogue → Type 0) (by_op : (name : List ℕ) (born : ℕ) (cat : Catalogue) (op : Op) → P cat → P (done_op name born cat op)) where
+  after_ops : (name : List ℕ) (born : ℕ) (cat : Catalogue) (ops : List Op) → P cat → P (done_ops name born cat ops)
+  after_ops name born cat [] has = has
+  after_ops name born cat (op ∷ ops) has = after_ops name born (done_op name born cat op) ops (by_op name born cat op has)
 
-module _ {K X : Type 0} (R : K → K → Ordering) (laws : IsTotalOrder R) where
-  -- an entry more, by how its key stands to the first
-  below_by : (o : Ordering) (x : K) (e : K × X) (es : List (K × X)) (k : K) (v : X) → R x k ≡ Less → AllByRecursion (λ y. R x y ≡ Less) (keys_of (e ∷ es)) → AllByRecursion (λ y. R x y ≡ Less) (keys_of (insert_entry R es k v))
-      → AllByRecursion (λ y. R x y ≡ Less) (keys_of (match_ordering o ((k, v) ∷ e ∷ es) ((e.0, v) ∷ es) (e ∷ insert_entry R es k v)))
-  below_by Less x e es k v one all later = (one, all)
-  below_by Equal x e es k v one all later = all
-  below_by Greater x e es k v one all later = (all.0, later)
+  after_events : (cat : Catalogue) (es : List Event) → P cat → P (catalogue_after cat es)
+  after_events cat [] has = has
+  after_events cat (e ∷ es) has = after_events (done e.change cat) es (after_ops e.change.db e.change.db_born cat e.change.ops has)
 
-  below_insert : (x : K) (es : List (K × X)) (k : K) (v : X) → R x k ≡ Less → AllByRecursion (λ y. R x y ≡ Less) (keys_of es) → AllByRecursion (λ y. R x y ≡ Less) (keys_of (insert_entry R es k v))
-  below_insert x [] k v one all = (one, tt)
-  below_insert x (e ∷ es) k v one all = below_by (R k e.0) x e es k v one all (below_insert x es k v one all.1)
+-- ---- the names of databases
 
-  rising_by : (o : Ordering) (e : K × X) (es : List (K × X)) (k : K) (v : X) → R k e.0 ≡ o → IsStrictlySortedBy R (keys_of (e ∷ es)) → IsStrictlySortedBy R (keys_of (insert_entry R es k v))
-      → IsStrictlySortedBy R (keys_of (match_ordering o ((k, v) ∷ e ∷ es) ((e.0, v) ∷ es) (e ∷ insert_entry R es k v)))
-  unfolding IsStrictlySortedBy
-  rising_by Less e es k v is all later = ((is, below_all R laws k e.0 (keys_of es) is all.0), all)
-  rising_by Equal e es k v is all later = all
-  rising_by Greater e es k v is all later =
-      let above : R e.0 k ≡ Less = laws.antisymm e.0 k ∙ ap ordering_reverse is in
-      (below_insert e.0 es k v above all.0, later)
+in_database : (o : Option HeldDb) (db : List ℕ) (change : List (List ℕ × HeldTable) → List (List ℕ × HeldTable)) (cat : Catalogue) → NamesRise cat → NamesRise (changed_in o db change cat)
+in_database None db change cat rise = rise
+in_database (Some held) db change cat rise = with_other_value (is_name db) cat.databases (with_tables (change held.tables) held) rise
 
-  -- keys that rise still do with an entry more
-  rising_insert : (es : List (K × X)) (k : K) (v : X) → IsStrictlySortedBy R (keys_of es) → IsStrictlySortedBy R (keys_of (insert_entry R es k v))
-  unfolding IsStrictlySortedBy
-  rising_insert [] k v all = (tt, tt)
-  rising_insert (e ∷ es) k v all = rising_by (R k e.0) e es k v refl all (rising_insert es k v all.1)
-
--- ---- a catalogue
+in_tables : (db : List ℕ) (change : List (List ℕ × HeldTable) → List (List ℕ × HeldTable)) (cat : Catalogue) → NamesRise cat → NamesRise (changed_tables db change cat)
+in_tables db change cat rise = in_database (database cat db) db change cat rise
 
 after_op : (name : List ℕ) (born : ℕ) (cat : Catalogue) (op : Op) → NamesRise cat → NamesRise (done_op name born cat op)
-after_op name born cat (PutDb rec) rise = rising_insert (slice_cmp nat_cmp) nat_list_cmp_total cat.databases name (born, rec) rise
-after_op name born cat DropDb rise = rise
-after_op name born cat (PutTable table at rec) rise = rise
-after_op name born cat (DropTable table at) rise = rise
-after_op name born cat (MoveTable table at to rec) rise = rise
+after_op name born cat (PutDb rec) rise = with_name name (with_record born rec (database cat name)) cat.databases rise
+after_op name born cat DropDb rise = without_name name cat.databases rise
+after_op name born cat (PutTable table at rec) rise = in_tables name (put_table table at rec) cat rise
+after_op name born cat (DropTable table at) rise = in_tables name (without_table table) cat rise
+after_op name born cat (MoveTable table at to rec) rise = in_tables name (λ tables. without_table table (put_table to at rec tables)) cat rise
 after_op name born cat (PutPart table at values rec) rise = rise
 after_op name born cat (DropPart table at values) rise = rise
 after_op name born cat (MovePart table at values to rec) rise = rise
 
-after_ops : (name : List ℕ) (born : ℕ) (cat : Catalogue) (ops : List Op) → NamesRise cat → NamesRise (done_ops name born cat ops)
-after_ops name born cat [] rise = rise
-after_ops name born cat (op ∷ ops) rise = after_ops name born (done_op name born cat op) ops (after_op name born cat op rise)
-
-after_events : (cat : Catalogue) (es : List Event) → NamesRise cat → NamesRise (catalogue_after cat es)
-after_events cat [] rise = rise
-after_events cat (e ∷ es) rise = after_events (done e.change cat) es (after_ops e.change.db e.change.db_born cat e.change.ops rise)
-
 pub go_on_rising : NamesGoOnRising
 go_on_rising s ms rise =
-    subst (λ (c : Catalogue). NamesRise c) (sym (always_together s ms).catalogue) (after_events s.state.catalogue (events_from (point_of s) ms) rise)
+    subst (λ (c : Catalogue). NamesRise c) (sym (always_together s ms).catalogue) (after_events NamesRise after_op s.state.catalogue (events_from (point_of s) ms) rise)
 
 new_rise : NamesRise new_catalogue
 unfolding IsStrictlySortedBy
@@ -83,3 +55,49 @@ new_rise = (tt, tt)
 
 pub of_new_stores : NamesOfNewStoresRise
 of_new_stores id base fault past ms = go_on_rising (record { state = start id base; fault = fault; past = past }) ms new_rise
+
+-- ---- the names of tables
+
+abbrev HasRising : HeldDb → Type 0
+HasRising held = AreRising held.tables
+
+-- a change of tables after which names that rose still do
+abbrev Keeps : (List (List ℕ × HeldTable) → List (List ℕ × HeldTable)) → Type 0
+Keeps change = (tables : List (List ℕ × HeldTable)) → AreRising tables → AreRising (change tables)
+
+with_table : (table : List ℕ) (new : HeldTable) → Keeps (put_table table new.born new.rec)
+with_table table new tables rise = with_name table new tables rise
+
+less_table : (table : List ℕ) → Keeps (without_table table)
+less_table table tables rise = without_name table tables rise
+
+record_put : (new : HeldDb) (o : Option HeldDb) → ((held : HeldDb) → o ≡ Some held → HasRising held) → HasRising (with_record new.born new.rec o)
+record_put new None has = no_names HeldTable
+record_put new (Some held) has = has held refl
+
+tables_in : (o : Option HeldDb) (db : List ℕ) (change : List (List ℕ × HeldTable) → List (List ℕ × HeldTable)) (cat : Catalogue) → database cat db ≡ o → Keeps change → TableNamesRise cat → TableNamesRise (changed_in o db change cat)
+tables_in None db change cat is keeps rise = rise
+tables_in (Some held) db change cat is keeps rise =
+    each_set HasRising (is_name db) cat.databases (with_tables (change held.tables) held) (keeps held.tables (one_found HasRising (is_name db) cat.databases held rise is)) rise
+
+tables_changed : (db : List ℕ) (change : List (List ℕ × HeldTable) → List (List ℕ × HeldTable)) (cat : Catalogue) → Keeps change → TableNamesRise cat → TableNamesRise (changed_tables db change cat)
+tables_changed db change cat keeps rise = tables_in (database cat db) db change cat refl keeps rise
+
+tables_after : (name : List ℕ) (born : ℕ) (cat : Catalogue) (op : Op) → TableNamesRise cat → TableNamesRise (done_op name born cat op)
+tables_after name born cat (PutDb rec) rise =
+    each_put HasRising name (with_record born rec (database cat name)) cat.databases (record_put (record { born = born; rec = rec; tables = [] }) (database cat name) (λ held is. one_found HasRising (is_name name) cat.databases held rise is)) rise
+tables_after name born cat DropDb rise = each_removed HasRising (is_name name) cat.databases rise
+tables_after name born cat (PutTable table at rec) rise = tables_changed name (put_table table at rec) cat (with_table table (record { born = at; rec = rec })) rise
+tables_after name born cat (DropTable table at) rise = tables_changed name (without_table table) cat (less_table table) rise
+tables_after name born cat (MoveTable table at to rec) rise =
+    tables_changed name (λ tables. without_table table (put_table to at rec tables)) cat (λ tables has. less_table table (put_table to at rec tables) (with_table to (record { born = at; rec = rec }) tables has)) rise
+tables_after name born cat (PutPart table at values rec) rise = rise
+tables_after name born cat (DropPart table at values) rise = rise
+tables_after name born cat (MovePart table at values to rec) rise = rise
+
+pub tables_go_on : TableNamesGoOnRising
+tables_go_on s ms rise =
+    subst (λ (c : Catalogue). TableNamesRise c) (sym (always_together s ms).catalogue) (after_events TableNamesRise tables_after s.state.catalogue (events_from (point_of s) ms) rise)
+
+pub tables_of_new : TableNamesOfNewStoresRise
+tables_of_new id base fault past ms = tables_go_on (record { state = start id base; fault = fault; past = past }) ms (no_names HeldTable, tt)

@@ -1,7 +1,7 @@
 -- Polls write nothing; which events are above a number below 0.
 use Rattle.std.proofs.Common.{◌≡◌, refl, sym, ap, ◌∙◌, ℕ, ◌<◌, ℤ, pos, negsuc, ◌<ℤ◌, List, [], ◌∷◌, arith}
 use Rattle.std.proofs.lemmas.Int.{ints}
-use Rattle.cat_types.specs.declared.calls.Call.TheVariants.{CreateDatabase, GetAllDatabases, GetCurrentNotificationEventId, GetDatabase, GetNextNotification}
+use Rattle.cat_types.specs.declared.calls.Call.TheVariants.{AlterDatabase, AlterTable, CreateDatabase, CreateTable, DropDatabase, DropTable, GetAllDatabases, GetAllTables, GetCurrentNotificationEventId, GetDatabase, GetDatabases, GetFields, GetNextNotification, GetSchema, GetTable, GetTableObjectsByName, GetTableReq, GetTables}
 use Rattle.cat_types.specs.declared.changes.Event.{Event}
 use Rattle.desk.specs.Laws.{PollsWriteNothing}
 use Rattle.desk.specs.Polls.{events_beyond}
@@ -12,6 +12,19 @@ pub write_nothing : PollsWriteNothing
 write_nothing s GetAllDatabases moment is = absurd cc
 write_nothing s (GetDatabase name) moment is = absurd cc
 write_nothing s (CreateDatabase db) moment is = absurd cc
+write_nothing s (DropDatabase name cascade) moment is = absurd cc
+write_nothing s (GetDatabases pattern) moment is = absurd cc
+write_nothing s (AlterDatabase name db) moment is = absurd cc
+write_nothing s (CreateTable new) moment is = absurd cc
+write_nothing s (DropTable db name) moment is = absurd cc
+write_nothing s (GetTables db pattern) moment is = absurd cc
+write_nothing s (GetAllTables db) moment is = absurd cc
+write_nothing s (GetTable db name) moment is = absurd cc
+write_nothing s (GetTableReq db name) moment is = absurd cc
+write_nothing s (GetTableObjectsByName db names) moment is = absurd cc
+write_nothing s (AlterTable db name new) moment is = absurd cc
+write_nothing s (GetFields db name) moment is = absurd cc
+write_nothing s (GetSchema db name) moment is = absurd cc
 write_nothing s (GetNextNotification last max) moment is = refl
 write_nothing s GetCurrentNotificationEventId moment is = refl
 

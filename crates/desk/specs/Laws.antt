@@ -1,6 +1,7 @@
 -- What follows from histories.
 use Rattle.std.specs.Prelude.{◌≡◌, ◌≢◌, ◌⊎◌, ◌↔◌, ℕ, ◌+◌, ◌≤◌, Bool, true, false, not, ◌&&◌, List, [], ◌∷◌, ◌++◌, length, Option, Some, None, option_to_list, IsSome, if◌then◌else◌}
 use Rattle.std.specs.Cmp.Lexicographic.{slice_cmp}
+use Rattle.std.specs.List.{AllByRecursion}
 use Rattle.std.specs.List.Sorted.{IsStrictlySortedBy}
 use Rattle.std.specs.Map.{keys_of}
 use Rattle.std.specs.Ordering.{nat_cmp}
@@ -109,11 +110,19 @@ abbrev pub OpenedIsDurable : Type 0
 OpenedIsDurable = (s : Start) (history : List Transition) (a : Option ℕ) (fault : ℕ)
     → durable (next (point_after (point_of s) history) (reopened a fault)).state ≡ (next (point_after (point_of s) history) (reopened a fault)).state
 
--- ---- the names of databases
+-- ---- the names of databases and of tables
+
+-- the names of these entries rise strictly, by their bytes
+abbrev pub AreRising : {X : Type 0} → List (List ℕ × X) → Type 0
+AreRising entries = IsStrictlySortedBy (slice_cmp nat_cmp) (keys_of entries)
 
 -- the names of a catalogue's databases rise strictly, by their bytes
 abbrev pub NamesRise : Catalogue → Type 0
-NamesRise cat = IsStrictlySortedBy (slice_cmp nat_cmp) (keys_of cat.databases)
+NamesRise cat = AreRising cat.databases
+
+-- the names of the tables of each database rise strictly, by their bytes
+abbrev pub TableNamesRise : Catalogue → Type 0
+TableNamesRise cat = AllByRecursion (λ e. AreRising e.1.tables) cat.databases
 
 -- Names that rise at the start rise after every history.
 abbrev pub NamesGoOnRising : Type 0
@@ -123,3 +132,12 @@ NamesGoOnRising = (s : Start) (history : List Transition) → NamesRise s.state.
 abbrev pub NamesOfNewStoresRise : Type 0
 NamesOfNewStoresRise = (id : List ℕ) (base fault : ℕ) (past : List Lies) (history : List Transition)
     → NamesRise (point_after (point_of (record { state = start id base; fault = fault; past = past })) history).state.catalogue
+
+-- Names of tables that rise at the start rise after every history.
+abbrev pub TableNamesGoOnRising : Type 0
+TableNamesGoOnRising = (s : Start) (history : List Transition) → TableNamesRise s.state.catalogue → TableNamesRise (point_after (point_of s) history).state.catalogue
+
+-- Names of tables rise after every history of a new store.
+abbrev pub TableNamesOfNewStoresRise : Type 0
+TableNamesOfNewStoresRise = (id : List ℕ) (base fault : ℕ) (past : List Lies) (history : List Transition)
+    → TableNamesRise (point_after (point_of (record { state = start id base; fault = fault; past = past })) history).state.catalogue

@@ -9,6 +9,8 @@ ghost use Rattle.desk.specs.Laws.{
   OpenedIsDurable,
   OpeningsGiveTheDisks,
   PollsWriteNothing,
+  TableNamesGoOnRising,
+  TableNamesOfNewStoresRise,
   WritesWhereTheDisksChange,
 };
 
@@ -46,4 +48,11 @@ pub fn openings_give_the_disks()
 pub fn names_rise()
     ensures go_on { NamesGoOnRising }
     ensures new_stores { NamesOfNewStoresRise }
+{}
+
+/// The names of the tables of each database rise strictly after every history of a new store, and of any
+/// start at which they rise.
+pub fn table_names_rise()
+    ensures go_on { TableNamesGoOnRising }
+    ensures new_stores { TableNamesOfNewStoresRise }
 {}

@@ -17,7 +17,7 @@ pub use entries::{CallerStep, Outcome};
 pub use foreign::Foreign;
 pub use laws::{
     changes_and_events_stand_together, names_rise, openings_find_refused_steps,
-    openings_give_the_disks, steps_write_where_the_disks_change,
+    openings_give_the_disks, steps_write_where_the_disks_change, table_names_rise,
 };
 pub use local::LocalDesk;
 pub use polling::{EVENT_LIMIT, reply_to_poll};

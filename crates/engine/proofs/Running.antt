@@ -43,6 +43,7 @@ stepped_of_two other s caller step given t v u h = record {
   may = may_of_two s v.faults other u.faults caller step given h.ran.later h.may;
   payload = h.payload;
   spells = h.spells;
+  taken = h.taken;
   ran = record { head = h.ran.head; log = log_of_two other v u h.payload (is_refused given) h.ran.log; went = h.ran.went; later = later_of_two v.faults other u.faults h.ran.later };
 }
 

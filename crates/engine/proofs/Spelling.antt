@@ -12,11 +12,11 @@ use Rattle.change_codec.specs.declared.version.Version.TheVariants.{One}
 use Rattle.desk.specs.State.{kept}
 use Rattle.engine.specs.Opening.{said, spelled}
 
-spelled_again : {T : Type 0} (form : Form T) (value : T) (old new : List ℕ) → IsReadAgain form → form.Fits value → old ≡ [] → new ≡ old ++ form.code value → whole form new ≡ Ok value
+spelled_again : {T : Type 0} (form : Form T) (value : T) (old new : List ℕ) → IsReadAgain form → form.HasCode value → old ≡ [] → new ≡ old ++ form.code value → whole form new ≡ Ok value
 spelled_again {T} form value old new again fits none is =
     ap (λ (l : List ℕ). whole form l) (is ∙ ap (λ (l : List ℕ). l ++ form.code value) none)
     ∙ ap (λ (r : Reading T). whole_by (length (form.code value)) r) (ap (λ (l : List ℕ). form.read l) (sym (append-nil (form.code value))) ∙ again value [] fits)
 
 -- the payload of an event's entry says that the event is kept
-pub spelled_event : (event : Event) (old new : List ℕ) → IsReadAgain (an_entry One) → (an_entry One).Fits (entry.Event event) → old ≡ [] → new ≡ old ++ (an_entry One).code (entry.Event event) → spelled new ≡ Some (kept event)
+pub spelled_event : (event : Event) (old new : List ℕ) → IsReadAgain (an_entry One) → (an_entry One).HasCode (entry.Event event) → old ≡ [] → new ≡ old ++ (an_entry One).code (entry.Event event) → spelled new ≡ Some (kept event)
 spelled_event event old new again fits none is = ap (λ (r : Result Entry ℕ). said r) (spelled_again (an_entry One) (entry.Event event) old new again fits none is)

@@ -6,7 +6,7 @@ use Rattle.cat_types.specs.declared.steps.Step.{Step}
 use Rattle.desk.specs.History.{Entry, MayFollow, Pending, Point, found, next, pending_after, pending_at, state_found, took}
 use Rattle.desk.specs.State.{MayAnswer, State, Written, due, durable, is_refused, writing}
 use Rattle.engine.proofs.Payloads.{ok, opened-step, writing_nothing}
-use Rattle.engine.specs.Inside.{IsPending, LogAfter, Meanwhile, Seen, Spells, StandsAt, Stepped}
+use Rattle.engine.specs.Inside.{IsPending, IsTaken, LogAfter, Meanwhile, Seen, Spells, StandsAt, Stepped}
 use Rattle.engine.specs.Keeping.{Kept, KeptMeanwhile, LeavesKept}
 use Rattle.engine.specs.Opening.{opened}
 use Rattle.hms_outside.proofs.Moves.{went_weaker}
@@ -75,22 +75,22 @@ same_log head v u s pending same doubt opens pend = record {
   doubt = subst (λ (o : Option (List ℕ)). IsPending head u.payloads o pending) (sym doubt) (subst (λ (ps : List (List ℕ)). IsPending head ps v.doubt pending) (sym same) pend);
 }
 
-after : (p : Point) (caller : ℕ) (step : Step) (head : List ℕ) (v u : Seen) (o : Option (List ℕ)) (w : Option Written) (refused : Bool) → writing p.state step ≡ w → Spells refused o w
+after : (p : Point) (caller : ℕ) (step : Step) (head : List ℕ) (v u : Seen) (o : Option (List ℕ)) (w : Option Written) (refused : Bool) → writing p.state step ≡ w → Spells refused o w → IsTaken p.state o w
     → opened head v.payloads ≡ Ok (durable p.state) → IsPending head v.payloads v.doubt p.pending
     → LogAfter o refused v u
     → After head u (state_by refused p.state (due p.state caller step).state) (pending_by (is_some w) refused (pending_at p.state caller step) p.pending)
-after p caller step head v u None None true is spells opens pending log = same_log head v u p.state p.pending log.0 log.1 opens pending
-after p caller step head v u None None false is spells opens pending log =
+after p caller step head v u None None true is spells taken opens pending log = same_log head v u p.state p.pending log.0 log.1 opens pending
+after p caller step head v u None None false is spells taken opens pending log =
     same_log head v u (due p.state caller step).state p.pending log.0 log.1 (opens ∙ ap ok (sym (writing_nothing p.state caller step is))) pending
-after p caller step head v u None (Some w) true is spells opens pending log =
+after p caller step head v u None (Some w) true is spells taken opens pending log =
     same_log head v u p.state (p.pending ++ pending_at p.state caller step ∷ []) log.0 log.1 opens (pending_later head v.payloads v.doubt p.pending (pending_at p.state caller step) pending)
-after p caller step head v u None (Some w) false is spells opens pending log = absurd (cc)
-after p caller step head v u (Some payload) None refused is spells opens pending log = absurd spells
-after p caller step head v u (Some payload) (Some w) false is spells opens pending log = record {
-  opens = ap (λ (ps : List (List ℕ)). opened head ps) log.0 ∙ opened-step head v.payloads payload w p.state caller step opens spells is;
+after p caller step head v u None (Some w) false is spells taken opens pending log = absurd (cc)
+after p caller step head v u (Some payload) None refused is spells taken opens pending log = absurd spells
+after p caller step head v u (Some payload) (Some w) false is spells taken opens pending log = record {
+  opens = ap (λ (ps : List (List ℕ)). opened head ps) log.0 ∙ opened-step head v.payloads payload w p.state caller step opens spells taken is;
   doubt = subst (λ (o : Option (List ℕ)). IsPending head u.payloads o []) (sym log.1) tt;
 }
-after p caller step head v u (Some payload) (Some w) true is spells opens pending log = record {
+after p caller step head v u (Some payload) (Some w) true is spells taken opens pending log = record {
   opens = ap (λ (ps : List (List ℕ)). opened head ps) log.0 ∙ opens;
   doubt = subst (λ (ps : List (List ℕ)). IsPending head ps u.doubt (p.pending ++ pending_at p.state caller step ∷ [])) (sym log.0) (by_doubt log.1);
 }
@@ -102,26 +102,26 @@ after p caller step head v u (Some payload) (Some w) true is spells opens pendin
       length p.pending,
       pending_at p.state caller step,
       found-last p.pending (pending_at p.state caller step),
-      opened-step head v.payloads payload w p.state caller step opens spells is,
+      opened-step head v.payloads payload w p.state caller step opens spells taken is,
     )
 
 -- ---- inside a turn
 
 -- what opens to the payloads, or to them and the step's, is kept without the step or with it
-within : (p q : Point) (caller : ℕ) (step : Step) (head : List ℕ) (ps : List (List ℕ)) (o : Option (List ℕ)) (w : Option Written) (refused : Bool) (c : List ℕ) → writing p.state step ≡ w → Spells refused o w
+within : (p q : Point) (caller : ℕ) (step : Step) (head : List ℕ) (ps : List (List ℕ)) (o : Option (List ℕ)) (w : Option Written) (refused : Bool) (c : List ℕ) → writing p.state step ≡ w → Spells refused o w → IsTaken p.state o w
     → opened head ps ≡ Ok (durable p.state)
     → q.state ≡ state_by refused p.state (due p.state caller step).state
     → q.pending ≡ pending_by (is_some w) refused (pending_at p.state caller step) p.pending
     → OpensTo head ps o c → Kept p c ⊎ Kept q c
-within p q caller step head ps None w refused c is spells opens state pending file = inl (kept_as_is p head ps c opens file)
-within p q caller step head ps (Some payload) None refused c is spells opens state pending file = absurd spells
-within p q caller step head ps (Some payload) (Some w) refused c is spells opens state pending (inl file) = inl (kept_as_is p head ps c opens file)
-within p q caller step head ps (Some payload) (Some w) false c is spells opens state pending (inr file) =
-    inr (kept_as_is q head (ps ++ payload ∷ []) c (opened-step head ps payload w p.state caller step opens spells is ∙ ap (λ (x : State). ok (durable x)) (sym state)) file)
-within p q caller step head ps (Some payload) (Some w) true c is spells opens state pending (inr file) =
+within p q caller step head ps None w refused c is spells taken opens state pending file = inl (kept_as_is p head ps c opens file)
+within p q caller step head ps (Some payload) None refused c is spells taken opens state pending file = absurd spells
+within p q caller step head ps (Some payload) (Some w) refused c is spells taken opens state pending (inl file) = inl (kept_as_is p head ps c opens file)
+within p q caller step head ps (Some payload) (Some w) false c is spells taken opens state pending (inr file) =
+    inr (kept_as_is q head (ps ++ payload ∷ []) c (opened-step head ps payload w p.state caller step opens spells taken is ∙ ap (λ (x : State). ok (durable x)) (sym state)) file)
+within p q caller step head ps (Some payload) (Some w) true c is spells taken opens state pending (inr file) =
     inr (kept_found q (length p.pending) (pending_at p.state caller step) head (ps ++ payload ∷ []) c
     (ap (λ (ls : List Pending). found (length p.pending) ls) pending ∙ found-last p.pending (pending_at p.state caller step))
-    (opened-step head ps payload w p.state caller step opens spells is) file)
+    (opened-step head ps payload w p.state caller step opens spells taken is) file)
 
 -- ---- one turn
 
@@ -134,7 +134,7 @@ turn_from : (p : Point) (caller : ℕ) (step : Step) (given : Answer) (t : State
     → TurnOn p (record { caller = caller; step = step }, record { answer = given; fault = u.faults }) t v u
 turn_from p caller step given t v u at h =
     let e : Entry = (record { caller = caller; step = step }, record { answer = given; fault = u.faults }) in
-    let a = after p caller step v.head v u h.payload (writing p.state step) (is_refused given) refl h.spells at.opens at.doubt h.ran.log in
+    let a = after p caller step v.head v u h.payload (writing p.state step) (is_refused given) refl h.spells h.taken at.opens at.doubt h.ran.log in
     let stands : StandsAt (next p (took e)) t u = record {
       is_state = sym h.state;
       fault = refl;
@@ -151,7 +151,7 @@ turn_from p caller step given t v u at h =
   where
     meanwhile : (c : List ℕ) → Meanwhile v h.payload c → KeptMeanwhile p (record { caller = caller; step = step }, record { answer = given; fault = u.faults }) c
     meanwhile c (inl file) = inl (kept_here p p.state v c at file)
-    meanwhile c (inr file) = within p (next p (took (record { caller = caller; step = step }, record { answer = given; fault = u.faults }))) caller step v.head v.payloads h.payload (writing p.state step) (is_refused given) c refl h.spells at.opens refl refl file
+    meanwhile c (inr file) = within p (next p (took (record { caller = caller; step = step }, record { answer = given; fault = u.faults }))) caller step v.head v.payloads h.payload (writing p.state step) (is_refused given) c refl h.spells h.taken at.opens refl refl file
 
 pub turn_on : (p : Point) (s t : State) (caller : ℕ) (step : Step) (given : Answer) (v u : Seen) → StandsAt p s v → Stepped s caller step given t v u
     → TurnOn p (record { caller = caller; step = step }, record { answer = given; fault = u.faults }) t v u

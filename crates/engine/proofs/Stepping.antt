@@ -1,5 +1,5 @@
 -- What a step did.
-use Rattle.std.proofs.Common.{◌≡◌, ℕ, ◌+◌, Bool, true, false, List, [], ◌∷◌, Option, None, Some, Result, Ok, Err, refl, sym, ◌∙◌, ap, subst}
+use Rattle.std.proofs.Common.{◌≡◌, ℕ, ◌+◌, ◌==◌, Bool, true, false, List, [], ◌∷◌, Option, None, Some, Result, Ok, Err, refl, sym, ◌∙◌, ap, subst, eq-eqb}
 use Rattle.std.specs.Prelude.{cond, is_some}
 use Rattle.cat_types.specs.declared.calls.Call.{Call}
 use Rattle.cat_types.specs.declared.changes.Change.{Change}
@@ -8,15 +8,16 @@ use Rattle.cat_types.specs.declared.replies.Reply.{Reply}
 use Rattle.cat_types.specs.declared.steps.Answer.TheVariants as answer
 use Rattle.cat_types.specs.declared.steps.Step.TheVariants.{Client}
 use Rattle.catalogue.specs.Catalogue.{Catalogue}
-use Rattle.catalogue.specs.Changes.{are_some, creates, has_operation, is_creation, is_one_put_db, takes_change}
+use Rattle.catalogue.specs.Changes.{are_some, has_operation, is_any, is_one, takes_call, takes_change}
 use Rattle.catalogue.specs.Decisions.{Decision, accepted, refused, told}
 use Rattle.catalogue.specs.Polls.{poll_of}
 use Rattle.catalogue.specs.declared.decided.Decided.TheVariants as decided
 use Rattle.catalogue.specs.declared.poll.Poll.{Poll}
 use Rattle.desk.specs.State.{State, Written, decision_of, due, kept, next_event, reply_by, reply_in, with_written, written_by, written_change}
 use Rattle.engine.proofs.Commits.{rested}
-use Rattle.engine.proofs.Tests.{first_of, last_of}
-use Rattle.engine.specs.Inside.{IsSure, Logged, Seen, Spells, Stepped, refused_by}
+use Rattle.engine.proofs.Tests.{all_of, first_of, last_of}
+use Rattle.engine.specs.Inside.{IsSure, IsTaken, Logged, Seen, Spells, Stepped, refused_by}
+use Rattle.engine.specs.Opening.{takes}
 use Rattle.ms_journal.specs.declared.fault.StoreFault.{StoreFault}
 use Rattle.ms_journal.specs.declared.fault.StoreFault.TheVariants as fault
 
@@ -27,14 +28,24 @@ no_change (refused refusal) s moment reply is = (refl, cc)
 no_change (accepted None result) s moment reply is = (refl, cc)
 no_change (accepted (Some change) result) s moment reply is = absurd cc
 
-one_is_some : (ops : List Op) → is_one_put_db ops ≡ true → are_some ops ≡ true
+-- a single operation is an operation
+one_is_some : (ops : List Op) → is_one is_any ops ≡ true → are_some ops ≡ true
 one_is_some [] is = absurd cc
 one_is_some (op ∷ ops) is = refl
 
 -- a change that is taken has an operation
-operates : (cat : Catalogue) (id : ℕ) (change : Change) → takes_change cat id change ≡ true → has_operation change ≡ true
-operates cat id change is =
-    one_is_some change.ops (first_of (is_one_put_db change.ops) _ (last_of (is_creation change.kind) _ (last_of _ (creates cat change) (last_of _ _ is))))
+operates : (cat : Catalogue) (id : ℕ) (change : Change) → takes_call cat id change ≡ true → has_operation change ≡ true
+operates cat id change is = one_is_some change.ops (last_of (takes_change cat id change) _ is)
+
+-- and its event is taken
+event_taken : (s : State) (moment : ℕ) (change : Change) → takes_call s.catalogue (s.newest + 1) change ≡ true → takes s (kept (next_event s moment change)) ≡ true
+event_taken s moment change is =
+    all_of (s.newest + 1 == s.newest + 1) _ (eq-eqb (s.newest + 1) (s.newest + 1) refl) (first_of (takes_change s.catalogue (s.newest + 1) change) _ is)
+
+taken_of : (s : State) (o : Option (List ℕ)) (written : Option Written) (w : Written) → written ≡ Some w → takes s w ≡ true → IsTaken s o written
+taken_of s None written w is takes_it = tt
+taken_of s (Some payload) None w is takes_it = tt
+taken_of s (Some payload) (Some other) w is takes_it = let same : other ≡ w = cc in subst (λ (x : Written). takes s x ≡ true) (sym same) takes_it
 
 a_change : (d : Decision) (s : State) (moment : ℕ) (change : Change) (reply : Reply) → decided.Change change reply ≡ told d → has_operation change ≡ true → (written_by d s moment ≡ Some (kept (next_event s moment change))) × (reply ≡ reply_by d)
 a_change (refused refusal) s moment change reply is some = absurd cc
@@ -58,8 +69,24 @@ stepped_reply s caller call moment reply v none sure is =
       may = due_reply s caller call moment reply none w.1;
       payload = None;
       spells = subst (λ (o : Option Written). Spells false None o) (sym w.0) tt;
+      taken = tt;
       ran = rested v sure false;
     }
+
+none_spelled : (o : Option Written) → Spells true None o
+none_spelled None = tt
+none_spelled (Some w) = refl
+
+-- want of memory before anything was written
+pub stepped_wanting : (s : State) (caller : ℕ) (call : Call) (moment : ℕ) (v : Seen) → IsSure v → Stepped s caller (Client call moment) answer.NoMemory s v v
+stepped_wanting s caller call moment v sure = record {
+  state = refl;
+  may = refl;
+  payload = None;
+  spells = none_spelled (written_by (decision_of s call moment) s moment);
+  taken = tt;
+  ran = rested v sure true;
+}
 
 abbrev well : Result (Unit {0}) StoreFault
 well = Ok tt
@@ -68,7 +95,7 @@ abbrev failed_by : StoreFault → Result (Unit {0}) StoreFault
 failed_by f = Err f
 
 -- a change whose event was written
-pub stepped_change : (s t : State) (caller : ℕ) (call : Call) (moment : ℕ) (change : Change) (reply : Reply) (v u : Seen) → poll_of call ≡ None → decided.Change change reply ≡ told (decision_of s call moment) → takes_change s.catalogue (s.newest + 1) change ≡ true
+pub stepped_change : (s t : State) (caller : ℕ) (call : Call) (moment : ℕ) (change : Change) (reply : Reply) (v u : Seen) → poll_of call ≡ None → decided.Change change reply ≡ told (decision_of s call moment) → takes_call s.catalogue (s.newest + 1) change ≡ true
     → t ≡ with_written (Some (kept (next_event s moment change))) s → Logged (kept (next_event s moment change)) well v u
     → Stepped s caller (Client call moment) (answer.Reply reply) t v u
 stepped_change s t caller call moment change reply v u none is takes_it done log =
@@ -78,11 +105,12 @@ stepped_change s t caller call moment change reply v u none is takes_it done log
       may = due_reply s caller call moment reply none w.1;
       payload = log.payload;
       spells = subst (λ (o : Option Written). Spells false log.payload o) (sym w.0) log.spells;
+      taken = taken_of s log.payload (written_by (decision_of s call moment) s moment) (kept (next_event s moment change)) w.0 (event_taken s moment change takes_it);
       ran = log.ran;
     }
 
 -- one whose event wasn't written
-pub stepped_fault : (s t : State) (caller : ℕ) (call : Call) (moment : ℕ) (change : Change) (reply : Reply) (f : StoreFault) (v u : Seen) → decided.Change change reply ≡ told (decision_of s call moment) → takes_change s.catalogue (s.newest + 1) change ≡ true
+pub stepped_fault : (s t : State) (caller : ℕ) (call : Call) (moment : ℕ) (change : Change) (reply : Reply) (f : StoreFault) (v u : Seen) → decided.Change change reply ≡ told (decision_of s call moment) → takes_call s.catalogue (s.newest + 1) change ≡ true
     → t ≡ s → Logged (kept (next_event s moment change)) (failed_by f) v u
     → Stepped s caller (Client call moment) (refused_by f) t v u
 stepped_fault s t caller call moment change reply fault.DiskFault v u is takes_it stays log =
@@ -92,6 +120,7 @@ stepped_fault s t caller call moment change reply fault.DiskFault v u is takes_i
       may = (ap (λ (o : Option Written). is_some o) w.0, log.cause refl);
       payload = log.payload;
       spells = subst (λ (o : Option Written). Spells true log.payload o) (sym w.0) log.spells;
+      taken = taken_of s log.payload (written_by (decision_of s call moment) s moment) (kept (next_event s moment change)) w.0 (event_taken s moment change takes_it);
       ran = log.ran;
     }
 stepped_fault s t caller call moment change reply fault.NoMemory v u is takes_it stays log =
@@ -101,5 +130,6 @@ stepped_fault s t caller call moment change reply fault.NoMemory v u is takes_it
       may = refl;
       payload = log.payload;
       spells = subst (λ (o : Option Written). Spells true log.payload o) (sym w.0) log.spells;
+      taken = taken_of s log.payload (written_by (decision_of s call moment) s moment) (kept (next_event s moment change)) w.0 (event_taken s moment change takes_it);
       ran = log.ran;
     }

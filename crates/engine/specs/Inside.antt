@@ -6,7 +6,7 @@ use Rattle.cat_types.specs.declared.steps.Step.{Step}
 use Rattle.desk.specs.History.{Entry, IsLegal, NoneAbove, Pending, Point, Start, found, next, point_after, point_of, took}
 use Rattle.desk.specs.State.{MayAnswer, State, Written, durable, is_refused, start, state_after_answer, writing}
 use Rattle.engine.specs.Keeping.{KeptMeanwhile, LeavesKept}
-use Rattle.engine.specs.Opening.{opened, spelled}
+use Rattle.engine.specs.Opening.{opened, spelled, takes}
 use Rattle.engine.specs.Stores.{Stored, fault_number}
 use Rattle.engine.specs.declared.turned.Turned.{Turned}
 use Rattle.hms_outside.specs.Causes.{Rose}
@@ -61,6 +61,12 @@ Spells refused None (Some written) = refused ≡ true
 Spells refused (Some payload) None = ⊥
 Spells refused (Some payload) (Some written) = spelled payload ≡ Some written
 
+-- the state can take what a payload, if any, spells
+abbrev pub IsTaken : State → Option (List ℕ) → Option Written → Type 0
+IsTaken state None written = ⊤
+IsTaken state (Some payload) None = ⊤
+IsTaken state (Some payload) (Some written) = takes state written ≡ true
+
 -- what writing an entry did to a journal
 pub record Logged {T : Type 0} (written : Written) (result : Result T StoreFault) (old new : Seen) : Type 0 where
   pub payload : Option (List ℕ)
@@ -74,6 +80,7 @@ pub record Stepped (old : State) (caller : ℕ) (step : Step) (given : Answer) (
   pub may : MayAnswer old v.faults caller step given u.faults
   pub payload : Option (List ℕ)
   pub spells : Spells (is_refused given) payload (writing old step)
+  pub taken : IsTaken old payload (writing old step)
   pub ran : Ran payload (is_refused given) v u
 
 -- the answer to a step whose entry isn't written

@@ -2,7 +2,7 @@
 
 ghost use Rattle.std.specs.Prelude.{◌≡◌, ◌<◌, ◌≤◌, ◌+◌, ◌++◌, ◌∷◌, [], true, Ok, IfOk, MatchResult, None, OnErr, OnOk, Some};
 ghost use Rattle.cat_types.specs.declared.steps.Step.TheVariants.{Client};
-ghost use Rattle.catalogue.specs.Changes.{creates, is_creation, is_one_put_db, takes_change};
+ghost use Rattle.catalogue.specs.Changes.{takes_call, takes_change};
 ghost use Rattle.catalogue.specs.Polls.{poll_of};
 ghost use Rattle.desk.specs.State.{kept, next_event, start, with_written};
 ghost use Rattle.engine.specs.Inside.{IsSure, Logged, Stepped, refused_by, seen_by};
@@ -10,9 +10,8 @@ ghost use Rattle.engine.specs.Opening.{RefusesReplay, taken, takes, written_in};
 ghost use Rattle.notify_log.specs.Logs.{next_number};
 
 use crate::committing::{commit, spell};
-use cat_rules::object_name;
-use cat_types::{Answer, Call, Change, Event, EventKind, ListOf, NoMemory, Op, Ops, Step};
-use catalogue::{Bars, Cat, Decided, LAST_EVENT, decide, poll_of};
+use cat_types::{Answer, Call, Change, Event, ListOf, NoMemory, Step};
+use catalogue::{Bars, Cat, Decided, decide, poll_of};
 use change_codec::Entry;
 use desk::reply_to_poll;
 use hms_outside::Disk;
@@ -131,7 +130,7 @@ impl Store {
         moment: u64,
     ) -> Result<(), StoreFault>
         requires sure { IsSure (seen_by D.lies D.past D.faults journal.old) }
-        requires takes { takes_change self.old.catalogue (self.old.newest + 1) change ≡ true }
+        requires takes { takes_call self.old.catalogue (self.old.newest + 1) change ≡ true }
         ensures ok { OnOk result (self.new ≡ with_written (Some (kept (next_event self.old moment change))) self.old) }
         ensures err { OnErr result (self.new ≡ self.old) }
         ensures log { Logged (kept (next_event self.old moment change)) result (seen_by D.lies D.past D.faults journal.old) (seen_by D.lies D.past D.faults journal.new) }
@@ -170,48 +169,27 @@ impl Store {
     fn take_event(&mut self, event: Event, at: u64) -> Result<(), OpenFault>
         ensures { MatchResult result (λ _. taken at (Some (kept event)) self.old ≡ Ok self.new) (λ fault. RefusesReplay fault (taken at (Some (kept event)) self.old)) }
     {
-        if !self.takes_event(&event) {
+        if event.id != self.newest + 1 || !self.redo(event)? {
             return Err(OpenFault::Broken(at));
         }
-        self.redo(event)?;
         Ok(())
     }
 
-    // Whether the state takes an event.
-    fn takes_event(&self, event: &Event) -> bool
-        ensures { result ≡ takes self.now (kept event.now) }
-    {
-        event.id == self.newest + 1 && self.takes_change(event.id, &event.change)
-    }
-
-    // Whether the catalogue can take a change as the event with this number.
-    fn takes_change(&self, id: u64, change: &Change) -> bool
-        ensures { result ≡ takes_change self.now.catalogue id change.now }
-    {
-        id <= LAST_EVENT && change.db_born == id && self.creates(change)
-    }
-
-    // Whether a change makes a database with a lawful name, which isn't there yet.
-    fn creates(&self, change: &Change) -> bool
-        ensures { result ≡ creates self.now.catalogue change.now }
-    {
-        is_creation(change.kind)
-            && is_one_put_db(&change.ops)
-            && object_name(&change.db)
-            && !self.cat.has_database(&change.db)
-    }
-
-    // Does an event again.
-    fn redo(&mut self, event: Event) -> Result<(), NoMemory>
-        requires { takes self.old (kept event) ≡ true }
-        ensures { OnOk result (self.new ≡ with_written (Some (kept event)) self.old) }
+    // Does the next event again, and tells whether the catalogue could take its change. Where it
+    // couldn't, or after `NoMemory`, a part of the change may be done. Room to keep the event is taken
+    // first, so that it is kept wherever its change is done.
+    fn redo(&mut self, event: Event) -> Result<bool, NoMemory>
+        requires { event.id ≡ self.old.newest + 1 }
+        ensures takes { IfOk result (λ taken. taken ≡ takes_change self.old.catalogue event.id event.change) }
+        ensures done { IfOk result (λ taken. taken ≡ true → self.new ≡ with_written (Some (kept event)) self.old) }
     {
         self.log.reserve()?;
-        let placed = self.cat.place(&event.change)?;
-        self.cat.settle(placed);
+        if !self.cat.replay(event.id, &event.change)? {
+            return Ok(false);
+        }
         self.newest = event.id;
         keep(&mut self.log, event);
-        Ok(())
+        Ok(true)
     }
 }
 
@@ -226,33 +204,6 @@ fn keep(log: &mut EventLog, event: Event)
     match log.push(event) {
         Ok(()) => {}
         Err(_) => unreachable!(),
-    }
-}
-
-// Whether events of this kind make a database.
-fn is_creation(kind: EventKind) -> bool
-    ensures { result ≡ is_creation kind }
-{
-    match kind {
-        EventKind::CreateDatabase => true,
-        EventKind::AlterDatabase
-        | EventKind::DropDatabase
-        | EventKind::CreateTable
-        | EventKind::AlterTable
-        | EventKind::DropTable
-        | EventKind::AddPartition
-        | EventKind::AlterPartition
-        | EventKind::DropPartition => false,
-    }
-}
-
-// Whether the one operation gives a database a record.
-fn is_one_put_db(ops: &Ops) -> bool
-    ensures { result ≡ is_one_put_db ops.now }
-{
-    match ops.as_slice() {
-        [Op::PutDb { .. }] => true,
-        _ => false,
     }
 }
 
