@@ -1,4 +1,7 @@
-mod ByTree
-mod Structs
 mod CanBeReplied
+mod Filled
+mod OrderIsFree
+mod Places
+mod Structs
 mod UnderZero
+mod Wrong

@@ -1,84 +1,110 @@
--- The arguments of calls: the slots that their fields fill, and what they ask.
-use Rattle.std.specs.Prelude.{ℕ, List, [], ◌∷◌, ◌++◌, ℤ, pos}
+-- What calls make of their arguments. A wrong argument is told by its id; where several are wrong, by the least.
+use Rattle.std.specs.Prelude.{ℕ, Bool, false, List, [], ◌∷◌, ◌++◌, ⊤, ℤ, pos, Result, Ok, Err}
 use Rattle.cat_types.specs.declared.arguments.DbArg.{DbArg}
-use Rattle.cat_types.specs.declared.calls.Call.TheVariants.{CreateDatabase, GetDatabase, GetNextNotification}
+use Rattle.cat_types.specs.declared.arguments.TableArg.{TableArg}
+use Rattle.cat_types.specs.declared.calls.Call.{Call}
+use Rattle.cat_types.specs.declared.calls.Call.TheVariants.{AlterDatabase, AlterTable, CreateDatabase, CreateTable, DropDatabase, DropTable, GetAllTables, GetDatabase, GetDatabases, GetFields, GetNextNotification, GetSchema, GetTable, GetTableObjectsByName, GetTableReq, GetTables}
+use Rattle.cat_types.specs.declared.replies.Reply.{Reply}
 use Rattle.cat_types.specs.declared.replies.Reply.TheVariants.{Names}
-use Rattle.ms_calls.specs.declared.request.Asked.{Asked}
-use Rattle.ms_calls.specs.declared.request.Asked.TheVariants.{Client, Plain, BadArgument}
-use Rattle.ms_calls.specs.declared.creating.DatabaseArgument.{DatabaseArgument}
 use Rattle.ms_structs.specs.declared.got.Got.{Got}
 use Rattle.ms_structs.specs.declared.got.Got.TheVariants.{Nothing, BadText, Is}
-use Rattle.ms_calls.specs.declared.naming.NameArgument.{NameArgument}
-use Rattle.ms_calls.specs.declared.polling.RequestArgument.{RequestArgument}
-use Rattle.ms_calls.specs.declared.ugi.UserArguments.{UserArguments}
-use Rattle.ms_structs.specs.Database.{database_of}
-use Rattle.ms_structs.specs.Notifications.{request_of}
 use Rattle.ms_structs.specs.declared.notification_request.NotificationRequest.{NotificationRequest}
-use Rattle.ms_structs.specs.Slots.{slot}
-use Rattle.thrift_binary.specs.Codes.{list_code, struct_code, text_code}
-use Rattle.thrift_binary.specs.Tree.{Wire}
-use Rattle.ms_structs.specs.Values.{items_of, text_of}
+use Rattle.table_structs.specs.declared.requests.TableRequest.{TableRequest}
 
--- an argument that must be there; without it, or with a bad text in it, the message is refused with its id
-abbrev pub needed : {T : Type 0} → ℤ → Got T → (T → Asked) → Asked
-needed id Nothing asks = BadArgument id
-needed id BadText asks = BadArgument id
-needed id (Is value) asks = asks value
+-- an argument that must be there and may have no bad text in it
+abbrev pub needed : {T : Type 0} → ℤ → Got T → Result T ℤ
+needed id Nothing = Err id
+needed id BadText = Err id
+needed id (Is value) = Ok value
 
 -- an argument that may be absent, and then has this value
-abbrev pub given : {T : Type 0} → ℤ → T → Got T → (T → Asked) → Asked
-given id absent Nothing asks = asks absent
-given id absent BadText asks = BadArgument id
-given id absent (Is value) asks = asks value
+abbrev pub given : {T : Type 0} → ℤ → T → Got T → Result T ℤ
+given id absent Nothing = Ok absent
+given id absent BadText = Err id
+given id absent (Is value) = Ok value
 
--- get_database: 1 the name
-abbrev pub get_database_asks : Got (List ℕ) → Asked
-get_database_asks name = needed (pos 1) name (λ name. Client (GetDatabase name))
+-- goes on with a value, where no argument was wrong so far
+abbrev pub and_then : {A B : Type 0} → Result A ℤ → (A → Result B ℤ) → Result B ℤ
+and_then (Ok value) go = go value
+and_then (Err id) go = Err id
 
-abbrev pub name_none : NameArgument
-name_none = record { name = Nothing }
+-- two arguments that must be there: they make this
+abbrev pub from_two : {A B C : Type 0} → Got A → Got B → (A → B → C) → Result C ℤ
+from_two first second make = and_then (needed (pos 1) first) (λ a. and_then (needed (pos 2) second) (λ b. Ok (make a b)))
 
-abbrev pub name_set : NameArgument → ℕ → ℤ → Wire → NameArgument
-name_set f ty id w = record { name = slot (pos 1) text_code text_of f.name ty id w }
-
-abbrev pub name_asks : NameArgument → Asked
-name_asks f = get_database_asks f.name
-
--- create_database: 1 the database
-abbrev pub create_database_asks : Got DbArg → Asked
-create_database_asks db = needed (pos 1) db (λ db. Client (CreateDatabase db))
-
-abbrev pub db_none : DatabaseArgument
-db_none = record { db = Nothing }
-
-abbrev pub db_set : DatabaseArgument → ℕ → ℤ → Wire → DatabaseArgument
-db_set f ty id w = record { db = slot (pos 1) struct_code database_of f.db ty id w }
-
-abbrev pub db_asks : DatabaseArgument → Asked
-db_asks f = create_database_asks f.db
-
--- get_next_notification: 1 the request
-abbrev pub next_notification_asks : Got NotificationRequest → Asked
-next_notification_asks request = needed (pos 1) request (λ request. Client (GetNextNotification request.last request.max))
-
-abbrev pub request_none : RequestArgument
-request_none = record { request = Nothing }
-
-abbrev pub request_set : RequestArgument → ℕ → ℤ → Wire → RequestArgument
-request_set f ty id w = record { request = slot (pos 1) struct_code request_of f.request ty id w }
-
-abbrev pub request_asks : RequestArgument → Asked
-request_asks f = next_notification_asks f.request
+-- ---- the server itself
 
 -- set_ugi: 1 the user, 2 the groups; it is answered the groups, and behind them the user
-abbrev pub set_ugi_asks : Got (List ℕ) → Got (List (List ℕ)) → Asked
-set_ugi_asks user groups = needed (pos 1) user (λ user. given (pos 2) [] groups (λ groups. Plain (Names (groups ++ user ∷ []))))
+abbrev pub set_ugi_reply : Got (List ℕ) → Got (List (List ℕ)) → Result Reply ℤ
+set_ugi_reply user groups = and_then (needed (pos 1) user) (λ user. and_then (given (pos 2) [] groups) (λ groups. Ok (Names (groups ++ user ∷ []))))
 
-abbrev pub user_none : UserArguments
-user_none = record { user = Nothing; groups = Nothing }
+-- ---- databases
 
-abbrev pub user_set : UserArguments → ℕ → ℤ → Wire → UserArguments
-user_set f ty id w = record { user = slot (pos 1) text_code text_of f.user ty id w; groups = slot (pos 2) list_code (items_of text_code text_of) f.groups ty id w }
+-- create_database: 1 the database
+abbrev pub create_database_call : Got DbArg → Result Call ℤ
+create_database_call db = and_then (needed (pos 1) db) (λ db. Ok (CreateDatabase db))
 
-abbrev pub user_asks : UserArguments → Asked
-user_asks f = set_ugi_asks f.user f.groups
+-- get_database: 1 the name
+abbrev pub get_database_call : Got (List ℕ) → Result Call ℤ
+get_database_call name = and_then (needed (pos 1) name) (λ name. Ok (GetDatabase name))
+
+-- drop_database: 1 the name, 3 whether all that it holds is dropped; an absent flag is false
+abbrev pub drop_database_call : Got (List ℕ) → Got Bool → Result Call ℤ
+drop_database_call name cascade = and_then (needed (pos 1) name) (λ name. and_then (given (pos 3) false cascade) (λ cascade. Ok (DropDatabase name cascade)))
+
+-- get_databases: 1 the pattern
+abbrev pub get_databases_call : Got (List ℕ) → Result Call ℤ
+get_databases_call pattern = and_then (needed (pos 1) pattern) (λ pattern. Ok (GetDatabases pattern))
+
+-- alter_database: 1 the name, 2 the new record
+abbrev pub alter_database_call : Got (List ℕ) → Got DbArg → Result Call ℤ
+alter_database_call name db = from_two name db AlterDatabase
+
+-- ---- tables
+
+-- create_table: 1 the table, and in its other spelling 2 a context, of which nothing is used
+abbrev pub create_table_call : Got TableArg → Got ⊤ → Result Call ℤ
+create_table_call table context = and_then (needed (pos 1) table) (λ table. and_then (given (pos 2) tt context) (λ _. Ok (CreateTable table)))
+
+-- drop_table: 1 the database, 2 the table, and in its other spelling 4 a context, of which nothing is used
+abbrev pub drop_table_call : Got (List ℕ) → Got (List ℕ) → Got ⊤ → Result Call ℤ
+drop_table_call db table context = and_then (from_two db table DropTable) (λ call. and_then (given (pos 4) tt context) (λ _. Ok call))
+
+-- get_tables: 1 the database, 2 the pattern
+abbrev pub get_tables_call : Got (List ℕ) → Got (List ℕ) → Result Call ℤ
+get_tables_call db pattern = from_two db pattern GetTables
+
+-- get_all_tables: 1 the database
+abbrev pub get_all_tables_call : Got (List ℕ) → Result Call ℤ
+get_all_tables_call db = and_then (needed (pos 1) db) (λ db. Ok (GetAllTables db))
+
+-- get_table: 1 the database, 2 the table
+abbrev pub get_table_call : Got (List ℕ) → Got (List ℕ) → Result Call ℤ
+get_table_call db table = from_two db table GetTable
+
+-- get_table_req: 1 the request, whose names may be absent
+abbrev pub get_table_req_call : Got TableRequest → Result Call ℤ
+get_table_req_call request = and_then (needed (pos 1) request) (λ request. Ok (GetTableReq request.db request.table))
+
+-- get_table_objects_by_name: 1 the database, 2 the tables
+abbrev pub get_table_objects_by_name_call : Got (List ℕ) → Got (List (List ℕ)) → Result Call ℤ
+get_table_objects_by_name_call db tables = from_two db tables GetTableObjectsByName
+
+-- alter_table: 1 the database, 2 the table, 3 the new record, and in its other spelling 4 a context, of which nothing is used
+abbrev pub alter_table_call : Got (List ℕ) → Got (List ℕ) → Got TableArg → Got ⊤ → Result Call ℤ
+alter_table_call db table new context =
+    and_then (needed (pos 1) db) (λ db. and_then (needed (pos 2) table) (λ table. and_then (needed (pos 3) new) (λ new. and_then (given (pos 4) tt context) (λ _. Ok (AlterTable db table new)))))
+
+-- get_fields: 1 the database, 2 the table
+abbrev pub get_fields_call : Got (List ℕ) → Got (List ℕ) → Result Call ℤ
+get_fields_call db table = from_two db table GetFields
+
+-- get_schema: 1 the database, 2 the table
+abbrev pub get_schema_call : Got (List ℕ) → Got (List ℕ) → Result Call ℤ
+get_schema_call db table = from_two db table GetSchema
+
+-- ---- events
+
+-- get_next_notification: 1 the request
+abbrev pub get_next_notification_call : Got NotificationRequest → Result Call ℤ
+get_next_notification_call request = and_then (needed (pos 1) request) (λ request. Ok (GetNextNotification request.last request.max))

@@ -1,24 +1,68 @@
 -- What a message asks. It depends on the call's name and on what is said of each argument: by the last field with the argument's id and type.
-use Rattle.std.specs.Prelude.{◌≡◌, ⊤, ℕ, List, [], ◌∷◌, Option, None, Some, ℤ, pos, codes}
+use Rattle.std.specs.Prelude.{◌≡◌, ◌⊎◌, ⊤, ℕ, Bool, List, [], ◌∷◌, Option, None, Some, ℤ, pos, Result, Ok, Err, codes}
+use Rattle.cat_types.specs.declared.arguments.DbArg.{DbArg}
+use Rattle.cat_types.specs.declared.arguments.TableArg.{TableArg}
 use Rattle.cat_types.specs.declared.calls.Call.{Call}
-use Rattle.cat_types.specs.declared.calls.Call.TheVariants.{CreateDatabase, GetAllDatabases, GetCurrentNotificationEventId, GetDatabase, GetNextNotification}
+use Rattle.cat_types.specs.declared.calls.Call.TheVariants.{AlterDatabase, AlterTable, CreateDatabase, CreateTable, DropDatabase, DropTable, GetAllDatabases, GetAllTables, GetCurrentNotificationEventId, GetDatabase, GetDatabases, GetFields, GetNextNotification, GetSchema, GetTable, GetTableObjectsByName, GetTableReq, GetTables}
 use Rattle.cat_types.specs.declared.replies.Reply.{Reply}
 use Rattle.cat_types.specs.declared.replies.Reply.TheVariants.{Names, Nothing, Number}
 use Rattle.ms_calls.specs.declared.request.Asked.{Asked}
 use Rattle.ms_calls.specs.declared.request.Asked.TheVariants.{BadArgument, Client, Plain, Unknown, Shutdown}
 use Rattle.ms_calls.specs.declared.method.Method.{Method}
 use Rattle.ms_calls.specs.declared.method.Method.TheVariants as method
-use Rattle.ms_calls.specs.Arguments.{create_database_asks, get_database_asks, next_notification_asks, set_ugi_asks}
+use Rattle.ms_calls.specs.Arguments.{alter_database_call, alter_table_call, create_database_call, create_table_call, drop_database_call, drop_table_call, get_all_tables_call, get_database_call, get_databases_call, get_fields_call, get_next_notification_call, get_schema_call, get_table_call, get_table_objects_by_name_call, get_table_req_call, get_tables_call, set_ugi_reply}
 use Rattle.ms_structs.specs.Database.{database_of}
-use Rattle.ms_structs.specs.Notifications.{request_of}
+use Rattle.ms_structs.specs.Notifications.{request_of as poll_of}
 use Rattle.ms_calls.specs.Methods.{method_named}
+use Rattle.ms_structs.specs.declared.got.Got.{Got}
+use Rattle.ms_structs.specs.declared.got.Got.TheVariants as got
 use Rattle.ms_structs.specs.Slots.{only, said}
-use Rattle.thrift_binary.specs.Codes.{list_code, struct_code, text_code}
+use Rattle.table_structs.specs.Contexts.{context_of}
+use Rattle.table_structs.specs.Requests.{request_of}
+use Rattle.table_structs.specs.Tables.{table_of}
+use Rattle.thrift_binary.specs.Codes.{bool_code, list_code, struct_code, text_code}
 use Rattle.thrift_binary.specs.Tree.{Fields}
-use Rattle.ms_structs.specs.Values.{items_of, text_of}
+use Rattle.ms_structs.specs.Values.{flag_of, items_of, text_of}
 
+-- the name that the server has
 abbrev pub server_name : List ℕ
 server_name = codes "new db based metaserver"
+
+-- a call of the catalogue, or the id of a wrong argument
+abbrev pub client : Result Call ℤ → Asked
+client (Ok call) = Client call
+client (Err id) = BadArgument id
+
+-- a reply that needs no catalogue, or the id of a wrong argument
+abbrev pub plain : Result Reply ℤ → Asked
+plain (Ok reply) = Plain reply
+plain (Err id) = BadArgument id
+
+-- ---- what is said of the argument with an id, by a value of the type that is wanted
+
+-- a text
+abbrev pub text_at : ℤ → Fields → Got (List ℕ)
+text_at id v = said id text_code text_of v
+
+-- a list of texts
+abbrev pub texts_at : ℤ → Fields → Got (List (List ℕ))
+texts_at id v = said id list_code (items_of text_code text_of) v
+
+-- a flag
+abbrev pub flag_at : ℤ → Fields → Got Bool
+flag_at id v = said id bool_code flag_of v
+
+-- a Database
+abbrev pub database_at : ℤ → Fields → Got DbArg
+database_at id v = said id struct_code database_of v
+
+-- a Table
+abbrev pub table_at : ℤ → Fields → Got TableArg
+table_at id v = said id struct_code table_of v
+
+-- an EnvironmentContext
+abbrev pub context_at : ℤ → Fields → Got ⊤
+context_at id v = said id struct_code context_of v
 
 -- A call with these fields of its argument struct asks for this. Some calls have no arguments, and whatever fields came are passed over; a call that nobody knows is unknown.
 abbrev pub asked_by : Option Method → Fields → Asked
@@ -26,12 +70,28 @@ asked_by None v = Unknown
 asked_by (Some method.GetName) v = Plain (Names (server_name ∷ []))
 asked_by (Some method.GetStatus) v = Plain (Number (pos 2))
 asked_by (Some method.Shutdown) v = Shutdown
-asked_by (Some method.SetUgi) v = set_ugi_asks (said (pos 1) text_code text_of v) (said (pos 2) list_code (items_of text_code text_of) v)
+asked_by (Some method.SetUgi) v = plain (set_ugi_reply (text_at (pos 1) v) (texts_at (pos 2) v))
 asked_by (Some method.GetAllFunctions) v = Plain Nothing
-asked_by (Some method.CreateDatabase) v = create_database_asks (said (pos 1) struct_code database_of v)
-asked_by (Some method.GetDatabase) v = get_database_asks (said (pos 1) text_code text_of v)
+asked_by (Some method.CreateDatabase) v = client (create_database_call (database_at (pos 1) v))
+asked_by (Some method.GetDatabase) v = client (get_database_call (text_at (pos 1) v))
+asked_by (Some method.DropDatabase) v = client (drop_database_call (text_at (pos 1) v) (flag_at (pos 3) v))
+asked_by (Some method.GetDatabases) v = client (get_databases_call (text_at (pos 1) v))
 asked_by (Some method.GetAllDatabases) v = Client GetAllDatabases
-asked_by (Some method.GetNextNotification) v = next_notification_asks (said (pos 1) struct_code request_of v)
+asked_by (Some method.AlterDatabase) v = client (alter_database_call (text_at (pos 1) v) (database_at (pos 2) v))
+asked_by (Some method.CreateTable) v = client (create_table_call (table_at (pos 1) v) got.Nothing)
+asked_by (Some method.CreateTableWithEnvironmentContext) v = client (create_table_call (table_at (pos 1) v) (context_at (pos 2) v))
+asked_by (Some method.DropTable) v = client (drop_table_call (text_at (pos 1) v) (text_at (pos 2) v) got.Nothing)
+asked_by (Some method.DropTableWithEnvironmentContext) v = client (drop_table_call (text_at (pos 1) v) (text_at (pos 2) v) (context_at (pos 4) v))
+asked_by (Some method.GetTables) v = client (get_tables_call (text_at (pos 1) v) (text_at (pos 2) v))
+asked_by (Some method.GetAllTables) v = client (get_all_tables_call (text_at (pos 1) v))
+asked_by (Some method.GetTable) v = client (get_table_call (text_at (pos 1) v) (text_at (pos 2) v))
+asked_by (Some method.GetTableReq) v = client (get_table_req_call (said (pos 1) struct_code request_of v))
+asked_by (Some method.GetTableObjectsByName) v = client (get_table_objects_by_name_call (text_at (pos 1) v) (texts_at (pos 2) v))
+asked_by (Some method.AlterTable) v = client (alter_table_call (text_at (pos 1) v) (text_at (pos 2) v) (table_at (pos 3) v) got.Nothing)
+asked_by (Some method.AlterTableWithEnvironmentContext) v = client (alter_table_call (text_at (pos 1) v) (text_at (pos 2) v) (table_at (pos 3) v) (context_at (pos 4) v))
+asked_by (Some method.GetFields) v = client (get_fields_call (text_at (pos 1) v) (text_at (pos 2) v))
+asked_by (Some method.GetSchema) v = client (get_schema_call (text_at (pos 1) v) (text_at (pos 2) v))
+asked_by (Some method.GetNextNotification) v = client (get_next_notification_call (said (pos 1) struct_code poll_of v))
 asked_by (Some method.GetCurrentNotificationEventId) v = Client GetCurrentNotificationEventId
 
 -- a message with this name
@@ -54,11 +114,24 @@ IfClient Unknown fact = ⊤
 IfClient (BadArgument id) fact = ⊤
 IfClient Shutdown fact = ⊤
 
--- a call of the catalogue is made by a message with this method
+-- a call of the catalogue is made by a message with this method; some calls have two spellings
 abbrev pub IsMethodOf : Call → Method → Type 0
-IsMethodOf GetAllDatabases named = named ≡ method.GetAllDatabases
-IsMethodOf (GetDatabase name) named = named ≡ method.GetDatabase
 IsMethodOf (CreateDatabase db) named = named ≡ method.CreateDatabase
+IsMethodOf (GetDatabase name) named = named ≡ method.GetDatabase
+IsMethodOf (DropDatabase name cascade) named = named ≡ method.DropDatabase
+IsMethodOf (GetDatabases pattern) named = named ≡ method.GetDatabases
+IsMethodOf GetAllDatabases named = named ≡ method.GetAllDatabases
+IsMethodOf (AlterDatabase name db) named = named ≡ method.AlterDatabase
+IsMethodOf (CreateTable table) named = (named ≡ method.CreateTable) ⊎ (named ≡ method.CreateTableWithEnvironmentContext)
+IsMethodOf (DropTable db table) named = (named ≡ method.DropTable) ⊎ (named ≡ method.DropTableWithEnvironmentContext)
+IsMethodOf (GetTables db pattern) named = named ≡ method.GetTables
+IsMethodOf (GetAllTables db) named = named ≡ method.GetAllTables
+IsMethodOf (GetTable db table) named = named ≡ method.GetTable
+IsMethodOf (GetTableReq db table) named = named ≡ method.GetTableReq
+IsMethodOf (GetTableObjectsByName db tables) named = named ≡ method.GetTableObjectsByName
+IsMethodOf (AlterTable db table new) named = (named ≡ method.AlterTable) ⊎ (named ≡ method.AlterTableWithEnvironmentContext)
+IsMethodOf (GetFields db table) named = named ≡ method.GetFields
+IsMethodOf (GetSchema db table) named = named ≡ method.GetSchema
 IsMethodOf (GetNextNotification last max) named = named ≡ method.GetNextNotification
 IsMethodOf GetCurrentNotificationEventId named = named ≡ method.GetCurrentNotificationEventId
 

@@ -1,7 +1,7 @@
 -- How refusals are told.
-use Rattle.std.specs.Prelude.{◌==◌, ◌||◌, ℕ, Option, None, Some, ℤ, pos, if◌then◌else◌}
+use Rattle.std.specs.Prelude.{◌==◌, ◌||◌, ℕ, suc, List, [], ◌∷◌, Option, None, Some, ℤ, pos, if◌then◌else◌}
 use Rattle.ms_calls.specs.declared.method.Method.{Method}
-use Rattle.ms_calls.specs.declared.method.Method.TheVariants.{GetName, GetStatus, Shutdown, SetUgi, GetAllFunctions, CreateDatabase, GetDatabase, GetAllDatabases, GetNextNotification, GetCurrentNotificationEventId}
+use Rattle.ms_calls.specs.Methods.{exceptions_of}
 use Rattle.ms_calls.specs.declared.exception.Exception.{Exception}
 use Rattle.ms_calls.specs.declared.exception.Exception.TheVariants.{AlreadyExists, NoSuchObject, InvalidObject, InvalidOperation, InvalidInput, Meta}
 
@@ -34,53 +34,30 @@ exception_of number =
     else (if (number == 6) || ((number == 7) || ((number == 8) || ((number == 12) || ((number == 13) || ((number == 14) || (number == 15)))))) then Some Meta
     else None)))))
 
--- Calls declare the same exceptions in a few orders; an exception's id is its place in that order, from 1 on.
+-- a number for each kind of exception, by which kinds are told apart
+abbrev pub exception_number : Exception → ℕ
+exception_number AlreadyExists = 0
+exception_number NoSuchObject = 1
+exception_number InvalidObject = 2
+exception_number InvalidOperation = 3
+exception_number InvalidInput = 4
+exception_number Meta = 5
 
--- a fault of the metastore alone
-abbrev pub meta_alone : Exception → Option ℤ
-meta_alone Meta = Some (pos 1)
-meta_alone AlreadyExists = None
-meta_alone NoSuchObject = None
-meta_alone InvalidObject = None
-meta_alone InvalidOperation = None
-meta_alone InvalidInput = None
+-- the place of an exception in a list the first of which has this place
+abbrev pub place_from : ℕ → Exception → List Exception → Option ℤ
+place_from place exception [] = None
+place_from place exception (declared ∷ others) = if exception_number declared == exception_number exception then Some (pos place) else place_from (suc place) exception others
 
--- already exists, invalid object, a fault of the metastore
-abbrev pub exists_invalid_meta : Exception → Option ℤ
-exists_invalid_meta AlreadyExists = Some (pos 1)
-exists_invalid_meta InvalidObject = Some (pos 2)
-exists_invalid_meta Meta = Some (pos 3)
-exists_invalid_meta NoSuchObject = None
-exists_invalid_meta InvalidOperation = None
-exists_invalid_meta InvalidInput = None
-
--- no such object, a fault of the metastore
-abbrev pub missing_meta : Exception → Option ℤ
-missing_meta NoSuchObject = Some (pos 1)
-missing_meta Meta = Some (pos 2)
-missing_meta AlreadyExists = None
-missing_meta InvalidObject = None
-missing_meta InvalidOperation = None
-missing_meta InvalidInput = None
-
--- the field under which a call declares an exception
+-- the field under which a call declares an exception: its place among those that the call declares
 abbrev pub exception_id : Method → Exception → Option ℤ
-exception_id GetName exception = None
-exception_id GetStatus exception = None
-exception_id Shutdown exception = None
-exception_id SetUgi exception = meta_alone exception
-exception_id GetAllFunctions exception = meta_alone exception
-exception_id CreateDatabase exception = exists_invalid_meta exception
-exception_id GetDatabase exception = missing_meta exception
-exception_id GetAllDatabases exception = meta_alone exception
-exception_id GetNextNotification exception = meta_alone exception
-exception_id GetCurrentNotificationEventId exception = meta_alone exception
+exception_id method exception = place_from 1 exception (exceptions_of method)
 
 -- the field under which a call declares the exception of a refusal
 abbrev pub id_of : Method → Option Exception → Option ℤ
 id_of method None = None
 id_of method (Some exception) = exception_id method exception
 
+-- the field under which a call, if it is known, declares the exception of the refusal with this number
 abbrev pub declared_id : Option Method → ℕ → Option ℤ
 declared_id None number = None
 declared_id (Some method) number = id_of method (exception_of number)

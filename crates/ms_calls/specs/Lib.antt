@@ -4,3 +4,4 @@ pub mod Asked
 pub mod Exceptions
 pub mod Replies
 pub mod Refusals
+pub mod Shapes

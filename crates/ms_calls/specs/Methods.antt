@@ -1,25 +1,67 @@
--- The calls that are known.
-use Rattle.std.specs.Prelude.{ℕ, List, Option, None, Some, codes, if◌then◌else◌}
+-- The calls that are known: their names, what they result in, and the exceptions that they declare.
+use Rattle.std.specs.Prelude.{⊤, ℕ, List, [], ◌∷◌, Option, None, Some, codes, if◌then◌else◌}
 use Rattle.std.specs.Str.{bytes_eq}
+use Rattle.ms_calls.specs.declared.exception.Exception.{Exception}
+use Rattle.ms_calls.specs.declared.exception.Exception.TheVariants.{AlreadyExists, NoSuchObject, InvalidObject, InvalidOperation, Meta}
 use Rattle.ms_calls.specs.declared.method.Method.{Method}
 use Rattle.ms_calls.specs.declared.method.Method.TheVariants as method
 use Rattle.ms_calls.specs.declared.method.ResultType.{ResultType}
-use Rattle.ms_calls.specs.declared.method.ResultType.TheVariants.{NoReply, NoField, EmptyStruct, OneText, TextList, Int, Database, Events, NewestEvent}
+use Rattle.ms_calls.specs.declared.method.ResultType.TheVariants.{NoReply, NoField, EmptyStruct, OneText, TextList, Int, Database, OneTable, TableResult, TableList, ColumnList, Events, NewestEvent}
 
--- the call whose messages have this name
-unfoldable pub method_named : List ℕ → Option Method
-method_named name =
+-- the call of the server itself whose messages have this name
+unfoldable pub server_named : List ℕ → Option Method
+server_named name =
     if bytes_eq name (codes "getName") then Some method.GetName
     else (if bytes_eq name (codes "getStatus") then Some method.GetStatus
     else (if bytes_eq name (codes "shutdown") then Some method.Shutdown
     else (if bytes_eq name (codes "set_ugi") then Some method.SetUgi
     else (if bytes_eq name (codes "get_all_functions") then Some method.GetAllFunctions
-    else (if bytes_eq name (codes "create_database") then Some method.CreateDatabase
+    else None))))
+
+-- the call of databases whose messages have this name
+unfoldable pub database_named : List ℕ → Option Method
+database_named name =
+    if bytes_eq name (codes "create_database") then Some method.CreateDatabase
     else (if bytes_eq name (codes "get_database") then Some method.GetDatabase
+    else (if bytes_eq name (codes "drop_database") then Some method.DropDatabase
+    else (if bytes_eq name (codes "get_databases") then Some method.GetDatabases
     else (if bytes_eq name (codes "get_all_databases") then Some method.GetAllDatabases
-    else (if bytes_eq name (codes "get_next_notification") then Some method.GetNextNotification
+    else (if bytes_eq name (codes "alter_database") then Some method.AlterDatabase
+    else None)))))
+
+-- the call of tables whose messages have this name
+unfoldable pub table_named : List ℕ → Option Method
+table_named name =
+    if bytes_eq name (codes "create_table") then Some method.CreateTable
+    else (if bytes_eq name (codes "create_table_with_environment_context") then Some method.CreateTableWithEnvironmentContext
+    else (if bytes_eq name (codes "drop_table") then Some method.DropTable
+    else (if bytes_eq name (codes "drop_table_with_environment_context") then Some method.DropTableWithEnvironmentContext
+    else (if bytes_eq name (codes "get_tables") then Some method.GetTables
+    else (if bytes_eq name (codes "get_all_tables") then Some method.GetAllTables
+    else (if bytes_eq name (codes "get_table") then Some method.GetTable
+    else (if bytes_eq name (codes "get_table_req") then Some method.GetTableReq
+    else (if bytes_eq name (codes "get_table_objects_by_name") then Some method.GetTableObjectsByName
+    else (if bytes_eq name (codes "alter_table") then Some method.AlterTable
+    else (if bytes_eq name (codes "alter_table_with_environment_context") then Some method.AlterTableWithEnvironmentContext
+    else (if bytes_eq name (codes "get_fields") then Some method.GetFields
+    else (if bytes_eq name (codes "get_schema") then Some method.GetSchema
+    else None))))))))))))
+
+-- the call of events whose messages have this name
+unfoldable pub event_named : List ℕ → Option Method
+event_named name =
+    if bytes_eq name (codes "get_next_notification") then Some method.GetNextNotification
     else (if bytes_eq name (codes "get_current_notificationEventId") then Some method.GetCurrentNotificationEventId
-    else None)))))))))
+    else None)
+
+-- the first of two that is there
+abbrev pub first_of : Option Method → Option Method → Option Method
+first_of (Some method) other = Some method
+first_of None other = other
+
+-- the call whose messages have this name
+unfoldable pub method_named : List ℕ → Option Method
+method_named name = first_of (server_named name) (first_of (database_named name) (first_of (table_named name) (event_named name)))
 
 -- what a call results in
 abbrev pub result_type : Method → ResultType
@@ -30,6 +72,78 @@ result_type method.SetUgi = TextList
 result_type method.GetAllFunctions = EmptyStruct
 result_type method.CreateDatabase = NoField
 result_type method.GetDatabase = Database
+result_type method.DropDatabase = NoField
+result_type method.GetDatabases = TextList
 result_type method.GetAllDatabases = TextList
+result_type method.AlterDatabase = NoField
+result_type method.CreateTable = NoField
+result_type method.CreateTableWithEnvironmentContext = NoField
+result_type method.DropTable = NoField
+result_type method.DropTableWithEnvironmentContext = NoField
+result_type method.GetTables = TextList
+result_type method.GetAllTables = TextList
+result_type method.GetTable = OneTable
+result_type method.GetTableReq = TableResult
+result_type method.GetTableObjectsByName = TableList
+result_type method.AlterTable = NoField
+result_type method.AlterTableWithEnvironmentContext = NoField
+result_type method.GetFields = ColumnList
+result_type method.GetSchema = ColumnList
 result_type method.GetNextNotification = Events
 result_type method.GetCurrentNotificationEventId = NewestEvent
+
+-- the exceptions that a call declares, in the order of their ids: the first has the id 1
+abbrev pub exceptions_of : Method → List Exception
+exceptions_of method.GetName = []
+exceptions_of method.GetStatus = []
+exceptions_of method.Shutdown = []
+exceptions_of method.SetUgi = Meta ∷ []
+exceptions_of method.GetAllFunctions = Meta ∷ []
+exceptions_of method.CreateDatabase = AlreadyExists ∷ InvalidObject ∷ Meta ∷ []
+exceptions_of method.GetDatabase = NoSuchObject ∷ Meta ∷ []
+exceptions_of method.DropDatabase = NoSuchObject ∷ InvalidOperation ∷ Meta ∷ []
+exceptions_of method.GetDatabases = Meta ∷ []
+exceptions_of method.GetAllDatabases = Meta ∷ []
+exceptions_of method.AlterDatabase = Meta ∷ NoSuchObject ∷ []
+exceptions_of method.CreateTable = AlreadyExists ∷ InvalidObject ∷ Meta ∷ NoSuchObject ∷ []
+exceptions_of method.CreateTableWithEnvironmentContext = AlreadyExists ∷ InvalidObject ∷ Meta ∷ NoSuchObject ∷ []
+exceptions_of method.DropTable = NoSuchObject ∷ Meta ∷ []
+exceptions_of method.DropTableWithEnvironmentContext = NoSuchObject ∷ Meta ∷ []
+exceptions_of method.GetTables = Meta ∷ []
+exceptions_of method.GetAllTables = Meta ∷ []
+exceptions_of method.GetTable = Meta ∷ NoSuchObject ∷ []
+exceptions_of method.GetTableReq = Meta ∷ NoSuchObject ∷ []
+exceptions_of method.GetTableObjectsByName = Meta ∷ []
+exceptions_of method.AlterTable = InvalidOperation ∷ Meta ∷ []
+exceptions_of method.AlterTableWithEnvironmentContext = InvalidOperation ∷ Meta ∷ []
+exceptions_of method.GetFields = Meta ∷ []
+exceptions_of method.GetSchema = Meta ∷ []
+exceptions_of method.GetNextNotification = Meta ∷ []
+exceptions_of method.GetCurrentNotificationEventId = Meta ∷ []
+
+-- a call on databases
+abbrev pub IsOnDatabases : Option Method → Type 0
+IsOnDatabases (Some method.CreateDatabase) = ⊤
+IsOnDatabases (Some method.GetDatabase) = ⊤
+IsOnDatabases (Some method.DropDatabase) = ⊤
+IsOnDatabases (Some method.GetDatabases) = ⊤
+IsOnDatabases (Some method.GetAllDatabases) = ⊤
+IsOnDatabases (Some method.AlterDatabase) = ⊤
+IsOnDatabases other = ⊥
+
+-- a call on tables
+abbrev pub IsOnTables : Option Method → Type 0
+IsOnTables (Some method.CreateTable) = ⊤
+IsOnTables (Some method.CreateTableWithEnvironmentContext) = ⊤
+IsOnTables (Some method.DropTable) = ⊤
+IsOnTables (Some method.DropTableWithEnvironmentContext) = ⊤
+IsOnTables (Some method.GetTables) = ⊤
+IsOnTables (Some method.GetAllTables) = ⊤
+IsOnTables (Some method.GetTable) = ⊤
+IsOnTables (Some method.GetTableReq) = ⊤
+IsOnTables (Some method.GetTableObjectsByName) = ⊤
+IsOnTables (Some method.AlterTable) = ⊤
+IsOnTables (Some method.AlterTableWithEnvironmentContext) = ⊤
+IsOnTables (Some method.GetFields) = ⊤
+IsOnTables (Some method.GetSchema) = ⊤
+IsOnTables other = ⊥

@@ -1,5 +1,6 @@
 -- The reply to a message: which replies a call can have, and how each is sent.
 use Rattle.std.specs.Prelude.{ℕ, List, [], ◌∷◌, map, Option, None, Some, IsSome, ℤ, pos}
+use Rattle.cat_types.specs.declared.named.NamedTable.{NamedTable}
 use Rattle.cat_types.specs.declared.replies.Reply.{Reply}
 use Rattle.cat_types.specs.declared.replies.Reply.TheVariants as reply
 use Rattle.thrift_binary.specs.Codes as codes
@@ -12,7 +13,10 @@ use Rattle.ms_calls.specs.declared.method.ResultType.TheVariants as of
 use Rattle.ms_calls.specs.Methods.{result_type}
 use Rattle.ms_calls.specs.Exceptions.{general_code, declared_id}
 use Rattle.ms_structs.specs.Notifications.{events_fields, newest_fields}
-use Rattle.ms_structs.specs.Written.{texts_tree, database_fields}
+use Rattle.ms_structs.specs.Written.{items_tree, texts_tree, database_fields}
+use Rattle.table_structs.specs.Columns.{column_tree}
+use Rattle.table_structs.specs.Requests.{table_result}
+use Rattle.table_structs.specs.Tables.{table_tree}
 use Rattle.notify_log.specs.Messages.{message_text}
 
 -- these fields, or none
@@ -26,6 +30,18 @@ one_text [] = None
 one_text (text ∷ []) = Some (Field text_code (pos 0) (Bytes text) NoFields)
 one_text (text ∷ more ∷ texts) = None
 
+-- one table, as it stands under field 0; any other number of tables is no result of one table
+abbrev pub one_table : List NamedTable → Option Fields
+one_table [] = None
+one_table (table ∷ []) = Some (Field struct_code (pos 0) (table_tree table) NoFields)
+one_table (table ∷ more ∷ tables) = None
+
+-- one table in a struct, as it stands under field 0; any other number of tables is no result of one table
+abbrev pub table_in_struct : List NamedTable → Option Fields
+table_in_struct [] = None
+table_in_struct (table ∷ []) = Some (Field struct_code (pos 0) (table_result table) NoFields)
+table_in_struct (table ∷ more ∷ tables) = None
+
 -- A result of this type stands under field 0; where there is none, so does no field. What is no result of the type has no fields to be sent as, so a result that is forgotten here can't be replied.
 abbrev pub result_fields : ResultType → Reply → Option Fields
 result_fields of.NoField reply.Nothing = Some NoFields
@@ -34,6 +50,10 @@ result_fields of.OneText (reply.Names texts) = one_text texts
 result_fields of.TextList (reply.Names texts) = Some (Field list_code (pos 0) (texts_tree texts) NoFields)
 result_fields of.Int (reply.Number number) = Some (Field i32_code (pos 0) (Number number) NoFields)
 result_fields of.Database (reply.Db name rec) = Some (Field struct_code (pos 0) (Struct (database_fields name rec)) NoFields)
+result_fields of.OneTable (reply.Tables tables) = one_table tables
+result_fields of.TableResult (reply.Tables tables) = table_in_struct tables
+result_fields of.TableList (reply.Tables tables) = Some (Field list_code (pos 0) (items_tree struct_code table_tree tables) NoFields)
+result_fields of.ColumnList (reply.Fields columns) = Some (Field list_code (pos 0) (items_tree struct_code column_tree columns) NoFields)
 result_fields of.Events (reply.Events events) = Some (Field struct_code (pos 0) (Struct (events_fields events (map message_text events))) NoFields)
 result_fields of.NewestEvent (reply.Big number) = Some (Field struct_code (pos 0) (Struct (newest_fields number)) NoFields)
 result_fields type reply = None
@@ -80,7 +100,9 @@ reply_kind reply.Nothing = codes.reply_kind
 reply_kind (reply.Number number) = codes.reply_kind
 reply_kind (reply.Big number) = codes.reply_kind
 reply_kind (reply.Names texts) = codes.reply_kind
+reply_kind (reply.Fields columns) = codes.reply_kind
 reply_kind (reply.Db name rec) = codes.reply_kind
+reply_kind (reply.Tables tables) = codes.reply_kind
 reply_kind (reply.Events events) = codes.reply_kind
 
 -- a reply repeats the message's name and sequence id

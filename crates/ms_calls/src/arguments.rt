@@ -1,45 +1,81 @@
-//! The arguments of calls.
+//! The arguments of calls. A wrong one is told by its id.
 
-ghost use Rattle.std.specs.Prelude.{◌≡◌, ◌≤◌, None, IfOk, IsErrOf};
+ghost use Rattle.std.specs.Prelude.{◌≡◌, ◌≤◌, ℤ, None, Result, IsErrOf};
+ghost use Rattle.cat_types.specs.declared.calls.Call.{Call};
 ghost use Rattle.hms_outside.specs.Causes.{Rose, StaysBut};
+ghost use Rattle.ms_calls.specs.Arguments.{given, needed};
+ghost use Rattle.ms_calls.specs.Asked.{client};
 ghost use Rattle.ms_structs.specs.Getting.{ReadsTree};
 ghost use Rattle.thrift_binary.specs.Codes.{struct_code};
 ghost use Rattle.thrift_binary.specs.Tree.{Struct};
 ghost use Rattle.thrift_binary.specs.Wire.{IsWire, StopsWire};
-ghost use Rattle.ms_structs.specs.Slots.{fold_fields};
-ghost use Rattle.ms_calls.specs.declared.request.Asked.{Asked};
 
 use crate::Asked;
-use cat_types::NoMemory;
+use crate::slots::Shape;
+use cat_types::Call;
 use hms_outside::Source;
-use ms_structs::{FieldSink, read_slots};
+use ms_structs::Got;
 use std::alloc::Global;
 use thrift_binary::{WireFault, WireReader};
 
-/// The arguments of a call: a slot for each.
-pub trait Arguments: FieldSink {
-    /// What these arguments ask.
-    ghost asks: { Self → Asked };
+/// A call of the catalogue, as messages ask for it.
+pub trait Ask {
+    /// The slots of its arguments.
+    type Slots: Drop;
 
-    /// What these arguments ask: the call with them, or the least id of a wrong one.
-    fn asked(self, alloc: Global) -> Result<Asked, NoMemory>
-        ensures { IfOk result (λ asked. asked ≡ asks self) };
+    /// The call that the arguments make, or the least id of a wrong one.
+    ghost makes: { Self.Slots → Result Call ℤ };
+
+    /// The call that the arguments make, or the least id of a wrong one.
+    fn make(slots: Self::Slots) -> Result<Call, i16>
+        ensures { result ≡ makes slots };
 }
 
-/// Reads the argument struct of a call.
-pub fn read_arguments<A: Arguments, S: Source>(
+/// Reads the arguments of a call of the catalogue, and says what the message asks.
+pub fn read_call<C: Ask, S: Source>(
     alloc: Global,
     reader: &mut WireReader<'_, S>,
 ) -> Result<Asked, WireFault>
+where
+    C::Slots: Shape,
     ensures same_source { reader.new.source.ghost_name ≡ reader.old.source.ghost_name }
     ensures later { S.faults reader.old.source.now ≤ S.faults reader.new.source.now }
     ensures cause { reader.old.progress.fault ≡ None → IsErrOf result WireFault.ReadFault → Rose (S.faults reader.old.source.now) (S.faults reader.new.source.now) }
     ensures stays { StaysBut WireFault.ReadFault result (S.faults reader.old.source.now) (S.faults reader.new.source.now) }
-    ensures reads { ReadsTree (S.left reader.old.source.now) (S.left reader.new.source.now) reader.old.progress reader.new.progress result (λ v. IsWire (Struct v) reader.old.progress.room struct_code) (λ v asked. asked ≡ A.asks (fold_fields A.set A.none v)) (StopsWire reader.old.progress.room struct_code) }
+    ensures reads { ReadsTree (S.left reader.old.source.now) (S.left reader.new.source.now) reader.old.progress reader.new.progress result (λ v. IsWire (Struct v) reader.old.progress.room struct_code) (λ v asked. asked ≡ client (C.makes (C.Slots.says v))) (StopsWire reader.old.progress.room struct_code) }
 {
-    let arguments = read_slots::<A, S>(alloc, reader)?;
-    match arguments.asked(alloc) {
-        Ok(asked) => Ok(asked),
-        Err(NoMemory) => Err(reader.refused()),
+    let slots = C::Slots::read::<S>(alloc, reader)?;
+    Ok(client(C::make(slots)))
+}
+
+/// An argument that must be there, with no text in it that isn't UTF-8; or else its id.
+pub fn needed<T: Drop>(id: i16, got: Got<T>) -> Result<T, i16>
+    ensures { result ≡ needed id got }
+{
+    match got {
+        Got::Is(value) => Ok(value),
+        Got::Nothing | Got::BadText => Err(id),
+    }
+}
+
+/// An argument that may be absent, and then has this value; or its id, where a text in it isn't
+/// UTF-8.
+pub fn given<T: Drop>(id: i16, absent: T, got: Got<T>) -> Result<T, i16>
+    ensures { result ≡ given id absent got }
+{
+    match got {
+        Got::Is(value) => Ok(value),
+        Got::Nothing => Ok(absent),
+        Got::BadText => Err(id),
+    }
+}
+
+// What a message asks that makes a call of the catalogue, or has a wrong argument with this id.
+fn client(call: Result<Call, i16>) -> Asked
+    ensures { result ≡ client call }
+{
+    match call {
+        Ok(call) => Asked::Client(call),
+        Err(id) => Asked::BadArgument(id),
     }
 }

@@ -1,21 +1,28 @@
 //! What messages ask.
 
-ghost use Rattle.std.specs.Prelude.{◌≡◌, ◌≤◌, [], ◌∷◌, None, IfOk, IsErrOf, OnOk};
+ghost use Rattle.std.specs.Prelude.{◌≡◌, ◌≤◌, [], ◌∷◌, None, IfOk, IsErrOf, OnOk, pos};
 ghost use Rattle.hms_outside.specs.Causes.{Rose, StaysBut};
 ghost use Rattle.cat_types.specs.declared.replies.Reply.TheVariants.{Names};
-ghost use Rattle.ms_calls.specs.Asked.{CameAs, IfClient, IfPlain, asked_by, asked_of, server_name};
-ghost use Rattle.ms_calls.specs.Methods.{method_named};
+ghost use Rattle.ms_calls.specs.Arguments.{set_ugi_reply};
+ghost use Rattle.ms_calls.specs.Asked.{CameAs, IfClient, IfPlain, asked_by, asked_of, plain, server_name, text_at, texts_at};
+ghost use Rattle.ms_calls.specs.Methods.{IsOnDatabases, IsOnTables, method_named};
 ghost use Rattle.ms_calls.specs.Replies.{CanReply};
 ghost use Rattle.ms_structs.specs.Getting.{ReadsTree};
 ghost use Rattle.thrift_binary.specs.Codes.{struct_code};
 ghost use Rattle.thrift_binary.specs.Tree.{Struct};
 ghost use Rattle.thrift_binary.specs.Wire.{IsWire, StopsWire};
 
-use crate::{
-    Asked, DatabaseArgument, Method, NameArgument, RequestArgument, UserArguments, method_named,
-    read_arguments,
+use crate::arguments::read_call;
+use crate::databases::{AlterDatabase, CreateDatabase, DropDatabase, GetDatabase, GetDatabases};
+use crate::server::{GetNextNotification, server_name, set_ugi};
+use crate::slots::{Shape, Two};
+use crate::tables::{
+    AlterTable, AlterTableWithEnvironmentContext, CreateTable, CreateTableWithEnvironmentContext,
+    DropTable, DropTableWithEnvironmentContext, GetAllTables, GetFields, GetSchema, GetTable,
+    GetTableObjectsByName, GetTableReq, GetTables,
 };
-use cat_types::{Call, ListOf, NoMemory, Reply, Text, Texts};
+use crate::{Asked, Method, method_named};
+use cat_types::{Call, NoMemory, Reply, Text, Texts};
 use hms_outside::Source;
 use ms_structs::skip_field;
 use std::alloc::Global;
@@ -76,19 +83,103 @@ fn read_asked<S: Source>(
         Some(Method::GetName) => ask_server_name(alloc, reader),
         Some(Method::GetStatus) => skip_arguments(reader, Asked::Plain(Reply::Number(2))),
         Some(Method::Shutdown) => skip_arguments(reader, Asked::Shutdown),
-        Some(Method::SetUgi) => read_arguments::<UserArguments, S>(alloc, reader),
+        Some(Method::SetUgi) => ask_set_ugi(alloc, reader),
         Some(Method::GetAllFunctions) => skip_arguments(reader, Asked::Plain(Reply::Nothing)),
-        Some(Method::CreateDatabase) => read_arguments::<DatabaseArgument, S>(alloc, reader),
-        Some(Method::GetDatabase) => read_arguments::<NameArgument, S>(alloc, reader),
-        Some(Method::GetAllDatabases) => skip_arguments(
-            reader,
-            Asked::Client(Call::GetAllDatabases),
-        ),
-        Some(Method::GetNextNotification) => read_arguments::<RequestArgument, S>(alloc, reader),
+        Some(
+            Method::CreateDatabase
+            | Method::GetDatabase
+            | Method::DropDatabase
+            | Method::GetDatabases
+            | Method::GetAllDatabases
+            | Method::AlterDatabase,
+        ) => read_database_call(alloc, method, reader),
+        Some(
+            Method::CreateTable
+            | Method::CreateTableWithEnvironmentContext
+            | Method::DropTable
+            | Method::DropTableWithEnvironmentContext
+            | Method::GetTables
+            | Method::GetAllTables
+            | Method::GetTable
+            | Method::GetTableReq
+            | Method::GetTableObjectsByName
+            | Method::AlterTable
+            | Method::AlterTableWithEnvironmentContext
+            | Method::GetFields
+            | Method::GetSchema,
+        ) => read_table_call(alloc, method, reader),
+        Some(Method::GetNextNotification) => read_call::<GetNextNotification, S>(alloc, reader),
         Some(Method::GetCurrentNotificationEventId) => skip_arguments(
             reader,
             Asked::Client(Call::GetCurrentNotificationEventId),
         ),
+    }
+}
+
+// Reads the arguments of a call on databases.
+fn read_database_call<S: Source>(
+    alloc: Global,
+    method: Option<Method>,
+    reader: &mut WireReader<'_, S>,
+) -> Result<Asked, WireFault>
+    requires { IsOnDatabases method }
+    ensures same_source { reader.new.source.ghost_name ≡ reader.old.source.ghost_name }
+    ensures later { S.faults reader.old.source.now ≤ S.faults reader.new.source.now }
+    ensures cause { reader.old.progress.fault ≡ None → IsErrOf result WireFault.ReadFault → Rose (S.faults reader.old.source.now) (S.faults reader.new.source.now) }
+    ensures stays { StaysBut WireFault.ReadFault result (S.faults reader.old.source.now) (S.faults reader.new.source.now) }
+    ensures reads { ReadsTree (S.left reader.old.source.now) (S.left reader.new.source.now) reader.old.progress reader.new.progress result (λ v. IsWire (Struct v) reader.old.progress.room struct_code) (λ v asked. asked ≡ asked_by method v) (StopsWire reader.old.progress.room struct_code) }
+{
+    match method {
+        Some(Method::CreateDatabase) => read_call::<CreateDatabase, S>(alloc, reader),
+        Some(Method::GetDatabase) => read_call::<GetDatabase, S>(alloc, reader),
+        Some(Method::DropDatabase) => read_call::<DropDatabase, S>(alloc, reader),
+        Some(Method::GetDatabases) => read_call::<GetDatabases, S>(alloc, reader),
+        Some(Method::GetAllDatabases) => skip_arguments(
+            reader,
+            Asked::Client(Call::GetAllDatabases),
+        ),
+        Some(Method::AlterDatabase) => read_call::<AlterDatabase, S>(alloc, reader),
+        _ => unreachable!(),
+    }
+}
+
+// Reads the arguments of a call on tables.
+fn read_table_call<S: Source>(
+    alloc: Global,
+    method: Option<Method>,
+    reader: &mut WireReader<'_, S>,
+) -> Result<Asked, WireFault>
+    requires { IsOnTables method }
+    ensures same_source { reader.new.source.ghost_name ≡ reader.old.source.ghost_name }
+    ensures later { S.faults reader.old.source.now ≤ S.faults reader.new.source.now }
+    ensures cause { reader.old.progress.fault ≡ None → IsErrOf result WireFault.ReadFault → Rose (S.faults reader.old.source.now) (S.faults reader.new.source.now) }
+    ensures stays { StaysBut WireFault.ReadFault result (S.faults reader.old.source.now) (S.faults reader.new.source.now) }
+    ensures reads { ReadsTree (S.left reader.old.source.now) (S.left reader.new.source.now) reader.old.progress reader.new.progress result (λ v. IsWire (Struct v) reader.old.progress.room struct_code) (λ v asked. asked ≡ asked_by method v) (StopsWire reader.old.progress.room struct_code) }
+{
+    match method {
+        Some(Method::CreateTable) => read_call::<CreateTable, S>(alloc, reader),
+        Some(Method::CreateTableWithEnvironmentContext) => read_call::<
+            CreateTableWithEnvironmentContext,
+            S,
+        >(alloc, reader),
+        Some(Method::DropTable) => read_call::<DropTable, S>(alloc, reader),
+        Some(Method::DropTableWithEnvironmentContext) => read_call::<
+            DropTableWithEnvironmentContext,
+            S,
+        >(alloc, reader),
+        Some(Method::GetTables) => read_call::<GetTables, S>(alloc, reader),
+        Some(Method::GetAllTables) => read_call::<GetAllTables, S>(alloc, reader),
+        Some(Method::GetTable) => read_call::<GetTable, S>(alloc, reader),
+        Some(Method::GetTableReq) => read_call::<GetTableReq, S>(alloc, reader),
+        Some(Method::GetTableObjectsByName) => read_call::<GetTableObjectsByName, S>(alloc, reader),
+        Some(Method::AlterTable) => read_call::<AlterTable, S>(alloc, reader),
+        Some(Method::AlterTableWithEnvironmentContext) => read_call::<
+            AlterTableWithEnvironmentContext,
+            S,
+        >(alloc, reader),
+        Some(Method::GetFields) => read_call::<GetFields, S>(alloc, reader),
+        Some(Method::GetSchema) => read_call::<GetSchema, S>(alloc, reader),
+        _ => unreachable!(),
     }
 }
 
@@ -125,14 +216,17 @@ fn ask_server_name<S: Source>(
     }
 }
 
-// The name of the server, as the one text of a list.
-fn server_name(alloc: Global) -> Result<Texts, NoMemory>
-    ensures { IfOk result (λ names. names ≡ server_name ∷ []) }
+// Reads the arguments of the call that names a user.
+fn ask_set_ugi<S: Source>(alloc: Global, reader: &mut WireReader<'_, S>) -> Result<Asked, WireFault>
+    ensures same_source { reader.new.source.ghost_name ≡ reader.old.source.ghost_name }
+    ensures later { S.faults reader.old.source.now ≤ S.faults reader.new.source.now }
+    ensures cause { reader.old.progress.fault ≡ None → IsErrOf result WireFault.ReadFault → Rose (S.faults reader.old.source.now) (S.faults reader.new.source.now) }
+    ensures stays { StaysBut WireFault.ReadFault result (S.faults reader.old.source.now) (S.faults reader.new.source.now) }
+    ensures reads { ReadsTree (S.left reader.old.source.now) (S.left reader.new.source.now) reader.old.progress reader.new.progress result (λ v. IsWire (Struct v) reader.old.progress.room struct_code) (λ v asked. asked ≡ plain (set_ugi_reply (text_at (pos 1) v) (texts_at (pos 2) v))) (StopsWire reader.old.progress.room struct_code) }
 {
-    let Ok(name) = Text::of(alloc, "new db based metaserver") else {
-        return Err(NoMemory);
-    };
-    let mut names = ListOf::new(alloc);
-    names.push(name)?;
-    Ok(names)
+    let slots = Two::<Text, Texts>::read::<S>(alloc, reader)?;
+    match set_ugi(alloc, slots.first, slots.second) {
+        Ok(asked) => Ok(asked),
+        Err(NoMemory) => Err(reader.refused()),
+    }
 }

@@ -1,7 +1,7 @@
 //! The exceptions that calls declare.
 
-ghost use Rattle.std.specs.Prelude.{◌≡◌};
-ghost use Rattle.ms_calls.specs.Exceptions.{declared_id, exception_id, exception_of, exists_invalid_meta, general_code, meta_alone, missing_meta};
+ghost use Rattle.std.specs.Prelude.{◌≡◌, ◌<◌, length};
+ghost use Rattle.ms_calls.specs.Exceptions.{declared_id, exception_id, exception_number, exception_of, general_code, place_from};
 
 use crate::Method;
 
@@ -14,6 +14,22 @@ pub enum Exception {
     InvalidOperation,
     InvalidInput,
     Meta,
+}
+
+impl Exception {
+    // A number for each kind, by which kinds are told apart.
+    fn number(self) -> u8
+        ensures { result ≡ exception_number self }
+    {
+        match self {
+            Exception::AlreadyExists => 0,
+            Exception::NoSuchObject => 1,
+            Exception::InvalidObject => 2,
+            Exception::InvalidOperation => 3,
+            Exception::InvalidInput => 4,
+            Exception::Meta => 5,
+        }
+    }
 }
 
 // The codes of a TApplicationException: the method is unknown, the server failed, the message isn't
@@ -56,58 +72,21 @@ impl Method {
     pub fn exception_id(self, exception: Exception) -> Option<i16>
         ensures { result ≡ exception_id self exception }
     {
-        match self {
-            Method::GetName | Method::GetStatus | Method::Shutdown => None,
-            Method::SetUgi | Method::GetAllFunctions | Method::GetAllDatabases => {
-                meta_alone(exception)
-            }
-            Method::GetNextNotification | Method::GetCurrentNotificationEventId => {
-                meta_alone(exception)
-            }
-            Method::CreateDatabase => exists_invalid_meta(exception),
-            Method::GetDatabase => missing_meta(exception),
+        place_of(exception, self.exceptions())
+    }
+}
+
+// The place of an exception among those that are declared, from 1 on.
+fn place_of(exception: Exception, declared: &[Exception]) -> Option<i16>
+    requires { length declared.now < 8 }
+    ensures { result ≡ place_from 1 exception declared.now }
+{
+    for at in 0..declared.len() {
+        if declared[at].number() == exception.number() {
+            return Some(at as i16 + 1);
         }
     }
-}
-
-// The ids of calls that declare a fault of the metastore alone.
-fn meta_alone(exception: Exception) -> Option<i16>
-    ensures { result ≡ meta_alone exception }
-{
-    match exception {
-        Exception::Meta => Some(1),
-        Exception::AlreadyExists
-        | Exception::NoSuchObject
-        | Exception::InvalidObject
-        | Exception::InvalidOperation
-        | Exception::InvalidInput => None,
-    }
-}
-
-// The ids of calls that make an object: it exists already, it is invalid, a fault of the metastore.
-fn exists_invalid_meta(exception: Exception) -> Option<i16>
-    ensures { result ≡ exists_invalid_meta exception }
-{
-    match exception {
-        Exception::AlreadyExists => Some(1),
-        Exception::InvalidObject => Some(2),
-        Exception::Meta => Some(3),
-        Exception::NoSuchObject | Exception::InvalidOperation | Exception::InvalidInput => None,
-    }
-}
-
-// The ids of calls that read an object: there is none such, a fault of the metastore.
-fn missing_meta(exception: Exception) -> Option<i16>
-    ensures { result ≡ missing_meta exception }
-{
-    match exception {
-        Exception::NoSuchObject => Some(1),
-        Exception::Meta => Some(2),
-        Exception::AlreadyExists
-        | Exception::InvalidObject
-        | Exception::InvalidOperation
-        | Exception::InvalidInput => None,
-    }
+    None
 }
 
 /// The field under which the call declares the exception of the refusal with this number.

@@ -3,26 +3,21 @@
 
 mod arguments;
 mod asking;
-mod creating;
+mod databases;
 mod exception;
 mod laws;
 mod method;
-mod naming;
-mod polling;
 mod refusals;
 mod reply;
 mod request;
-mod ugi;
+mod server;
+mod slots;
+mod tables;
 
-pub use arguments::{Arguments, read_arguments};
 pub use asking::{asked, asked_by};
-pub use creating::DatabaseArgument;
 pub use exception::Exception;
 pub use laws::order_of_fields_is_free;
 pub use method::{Method, ResultType, method_named};
-pub use naming::NameArgument;
-pub use polling::RequestArgument;
 pub use refusals::{bad_argument, out_of_memory, store_fault, unknown_method};
 pub use reply::{is_one_way, put_reply, put_reply_of};
 pub use request::Asked;
-pub use ugi::UserArguments;

@@ -1,24 +1,29 @@
 //! Replies to messages.
 
 ghost use Rattle.std.specs.Prelude.{◌≡◌, ◌==◌, IfOk, IsSome, map, pos};
-ghost use Rattle.thrift_binary.specs.Codes.{oneway_kind, struct_code};
+ghost use Rattle.thrift_binary.specs.Codes.{list_code, oneway_kind, struct_code};
 ghost use Rattle.thrift_binary.specs.Sending.{Gathers};
 ghost use Rattle.thrift_binary.specs.Strict.{fields_bytes, message_bytes, wire_bytes};
 ghost use Rattle.thrift_binary.specs.Tree.{Field, NoFields, Struct};
 ghost use Rattle.ms_structs.specs.Notifications.{events_fields, newest_fields};
+ghost use Rattle.ms_structs.specs.Written.{items_tree};
+ghost use Rattle.table_structs.specs.Columns.{column_tree};
+ghost use Rattle.table_structs.specs.Requests.{table_result};
+ghost use Rattle.table_structs.specs.Tables.{table_tree};
 ghost use Rattle.notify_log.specs.Messages.{message_text};
 ghost use Rattle.ms_calls.specs.Methods.{method_named};
-ghost use Rattle.ms_calls.specs.Replies.{CanReply, declared_fields, exception_tree, general_fields, one_text, or_none, refused_as, reply_fields, reply_head, reply_kind, result_fields};
+ghost use Rattle.ms_calls.specs.Replies.{CanReply, declared_fields, exception_tree, general_fields, one_table, one_text, or_none, refused_as, reply_fields, reply_head, reply_kind, result_fields, table_in_struct};
 
 use crate::exception::{declared_id, general_code};
 use crate::{Method, ResultType, method_named};
-use cat_types::{Event, Events, ListOf, NoMemory, Reply, Text, Texts};
+use cat_types::{Columns, Event, Events, ListOf, NamedTable, NoMemory, Reply, Tables, Text, Texts};
 use ms_structs::{
-    put_texts, write_current_notification_event_id, write_database,
+    put_list, put_texts, write_current_notification_event_id, write_database,
     write_get_all_functions_response, write_notification_event_response,
 };
 use notify_log::message;
 use std::alloc::Global;
+use table_structs::{ColumnFields, TableFields, write_get_table_result, write_table};
 use thrift_binary::{Head, WireWriter, message_kind, type_code};
 
 /// Whether the sender of a message wants no reply.
@@ -70,7 +75,8 @@ fn reply_kind(reply: &Reply) -> u8
             None => message_kind::REPLY,
         },
         Reply::Nothing | Reply::Number(_) | Reply::Big(_) | Reply::Names(_) => message_kind::REPLY,
-        Reply::Db(_, _) | Reply::Events(_) => message_kind::REPLY,
+        Reply::Fields(_) | Reply::Db(_, _) | Reply::Tables(_) => message_kind::REPLY,
+        Reply::Events(_) => message_kind::REPLY,
     }
 }
 
@@ -125,6 +131,10 @@ fn put_result(
             writer.field(type_code::STRUCT, 0)?;
             write_database(writer, name, rec)
         }
+        (ResultType::OneTable, Reply::Tables(tables)) => put_one_table(writer, tables),
+        (ResultType::TableResult, Reply::Tables(tables)) => put_table_in_struct(writer, tables),
+        (ResultType::TableList, Reply::Tables(tables)) => put_tables(writer, tables),
+        (ResultType::ColumnList, Reply::Fields(columns)) => put_columns(writer, columns),
         (ResultType::Events, Reply::Events(events)) => put_events(alloc, writer, events),
         (ResultType::NewestEvent, Reply::Big(number)) => put_newest(writer, *number),
         _ => unreachable!(),
@@ -141,6 +151,60 @@ fn put_one_text(writer: &mut WireWriter, texts: &Texts) -> Result<(), NoMemory>
     };
     writer.field(type_code::STRING, 0)?;
     writer.text(text)
+}
+
+// The one table of a list, under field 0.
+fn put_one_table(writer: &mut WireWriter, tables: &Tables) -> Result<(), NoMemory>
+    requires { IsSome (one_table tables.now) }
+    ensures { Gathers writer.old writer.new result (fields_bytes (or_none (one_table tables.now))) }
+{
+    let [table] = tables.as_slice() else {
+        unreachable!()
+    };
+    put_table(writer, table)
+}
+
+// A table, under field 0.
+fn put_table(writer: &mut WireWriter, table: &NamedTable) -> Result<(), NoMemory>
+    ensures { Gathers writer.old writer.new result (fields_bytes (Field struct_code (pos 0) (table_tree table.now) NoFields)) }
+{
+    writer.field(type_code::STRUCT, 0)?;
+    write_table(writer, table)
+}
+
+// The one table of a list, in a struct under field 0.
+fn put_table_in_struct(writer: &mut WireWriter, tables: &Tables) -> Result<(), NoMemory>
+    requires { IsSome (table_in_struct tables.now) }
+    ensures { Gathers writer.old writer.new result (fields_bytes (or_none (table_in_struct tables.now))) }
+{
+    let [table] = tables.as_slice() else {
+        unreachable!()
+    };
+    put_table_result(writer, table)
+}
+
+// A table in a struct, under field 0.
+fn put_table_result(writer: &mut WireWriter, table: &NamedTable) -> Result<(), NoMemory>
+    ensures { Gathers writer.old writer.new result (fields_bytes (Field struct_code (pos 0) (table_result table.now) NoFields)) }
+{
+    writer.field(type_code::STRUCT, 0)?;
+    write_get_table_result(writer, table)
+}
+
+// A list of tables, under field 0.
+fn put_tables(writer: &mut WireWriter, tables: &Tables) -> Result<(), NoMemory>
+    ensures { Gathers writer.old writer.new result (fields_bytes (Field list_code (pos 0) (items_tree struct_code table_tree tables.now) NoFields)) }
+{
+    writer.field(type_code::LIST, 0)?;
+    put_list::<TableFields>(writer, tables.as_slice())
+}
+
+// A list of columns, under field 0.
+fn put_columns(writer: &mut WireWriter, columns: &Columns) -> Result<(), NoMemory>
+    ensures { Gathers writer.old writer.new result (fields_bytes (Field list_code (pos 0) (items_tree struct_code column_tree columns.now) NoFields)) }
+{
+    writer.field(type_code::LIST, 0)?;
+    put_list::<ColumnFields>(writer, columns.as_slice())
 }
 
 // Events with their messages, under field 0.
