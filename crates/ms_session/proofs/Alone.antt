@@ -1,23 +1,40 @@
 -- A caller alone at a new store.
-use Rattle.std.proofs.Common.{◌≡◌, ℕ, ◌⊎◌, Bool, true, false, List, [], ◌∷◌, ◌++◌, map, codes, Option, Some, None, is_some, refl, ◌∙◌, ap, subst, inl, inr}
-use Rattle.std.specs.Prelude.{cond}
+use Rattle.std.proofs.Common.{◌≡◌, ℕ, ◌+◌, ◌⊎◌, Bool, true, false, not, ◌||◌, List, [], ◌∷◌, ◌++◌, map, codes, Option, Some, None, is_some, refl, sym, ◌∙◌, ap, subst, inl, inr}
+use Rattle.std.specs.Prelude.{⊤, cond}
 use Rattle.std.proofs.lemmas.Bool.{false≢true}
-use Rattle.std.specs.List.{AllByRecursion, flat_map}
-use Rattle.std.specs.Map.{keys_of}
+use Rattle.std.proofs.lemmas.Map.{keys-set_value}
+use Rattle.std.proofs.lemmas.Map.Text.{is_eq-slice_cmp}
+use Rattle.std.specs.BTreeMap.{insert_entry}
+use Rattle.std.specs.Cmp.Lexicographic.{slice_cmp}
+use Rattle.std.specs.List.{AllByRecursion, flat_map, list_any}
+use Rattle.std.specs.Map.{keys_of, lookup, set_value}
+use Rattle.std.specs.Ordering.{nat_cmp}
+use Rattle.std.specs.Str.{bytes_eq}
+use Rattle.cat_types.specs.declared.arguments.DbArg.{DbArg}
+use Rattle.cat_types.specs.declared.arguments.TableArg.{TableArg}
 use Rattle.cat_types.specs.declared.calls.Call.{Call}
-use Rattle.cat_types.specs.declared.calls.Call.TheVariants.{CreateDatabase, GetAllDatabases, GetCurrentNotificationEventId, GetDatabase, GetNextNotification}
+use Rattle.cat_types.specs.declared.calls.Call.TheVariants.{AlterDatabase, AlterTable, CreateDatabase, CreateTable, DropDatabase, DropTable, GetAllDatabases, GetAllTables, GetCurrentNotificationEventId, GetDatabase, GetDatabases, GetFields, GetNextNotification, GetSchema, GetTable, GetTableObjectsByName, GetTableReq, GetTables}
+use Rattle.cat_types.specs.declared.changes.Change.{Change}
+use Rattle.cat_types.specs.declared.changes.Op.{Op}
+use Rattle.cat_types.specs.declared.changes.Op.TheVariants.{DropDb, DropPart, MovePart, MoveTable, PutDb, PutPart, PutTable, DropTable as DropTableOp}
 use Rattle.cat_types.specs.declared.replies.Reply.{Reply}
 use Rattle.cat_types.specs.declared.replies.Reply.TheVariants.{Names}
 use Rattle.cat_types.specs.declared.steps.Answer.{Answer}
 use Rattle.cat_types.specs.declared.steps.Answer.TheVariants as answer
 use Rattle.cat_types.specs.declared.steps.Step.{Step}
 use Rattle.cat_types.specs.declared.steps.Step.TheVariants as step
-use Rattle.catalogue.specs.Catalogue.{Catalogue, database, new_catalogue}
+use Rattle.catalogue.specs.Catalogue.{Catalogue, at_name, database, has_database, is_name, put_at, table}
+use Rattle.catalogue.specs.Changes.{changed_in, done, done_op, done_ops, has_operation, put_table, with_tables, without_table}
+use Rattle.catalogue.specs.Databases.{Rule, alter_database_rules, database_altered, database_dropped, drop_database_rules, kept_name, matching}
 use Rattle.catalogue.specs.Decisions.{decided_by}
-use Rattle.catalogue.specs.Rules.{first_refusal, lower}
-use Rattle.catalogue.specs.declared.refusal.Refusal.TheVariants.{NoSuchObject}
+use Rattle.catalogue.specs.Rules.{first_broken, first_refusal, lacks_number, refusal, result_of, rules_of}
+use Rattle.catalogue.specs.Tables.{renames, table_altered, table_created, table_dropped, table_put}
+use Rattle.catalogue.specs.declared.bars.Bars.{Bars}
+use Rattle.catalogue.specs.declared.held.HeldDb.{HeldDb}
+use Rattle.catalogue.specs.declared.held.HeldTable.{HeldTable}
+use Rattle.catalogue.specs.declared.refusal.Refusal.{Refusal}
 use Rattle.desk.specs.History.{Entry, IsLegal, MayFollow, Point, next, point_of, took}
-use Rattle.desk.specs.State.{State, MayAnswer, due, start, state_after_answer, with_written, written_by}
+use Rattle.desk.specs.State.{State, MayAnswer, bars_of, due as due_in, kept, next_event, start, state_after_answer, with_written, writes, written_by}
 use Rattle.ms_calls.specs.declared.request.Asked.{Asked}
 use Rattle.ms_calls.specs.declared.request.Asked.TheVariants as ask
 use Rattle.ms_calls.specs.Refusals.{out_of_memory}
@@ -29,36 +46,17 @@ use Rattle.ms_session.proofs.Results.{reply_in}
 abbrev names : List (List ℕ)
 names = codes "default" ∷ []
 
--- a listing is answered by the names, or by want of memory
-listed : (p : Point) (caller moment fault : ℕ) (a : Answer) → p.state.catalogue ≡ new_catalogue → MayAnswer p.state p.fault caller (step.Client GetAllDatabases moment) a fault → (due : Reply) → IsReplyTo a due → (due ≡ Names names) ⊎ (due ≡ out_of_memory)
-listed p caller moment fault answer.NoMemory new may due is = inr is
-listed p caller moment fault answer.StoreFault new may due is = absurd (false≢true may.0)
-listed p caller moment fault (answer.Reply r) new may due is = inl (is ∙ ap reply_in may ∙ ap (λ (cat : Catalogue). Names (keys_of cat.databases)) new)
+-- `default` is the one database
+abbrev HasDefault : Catalogue → Type 0
+HasDefault cat = keys_of cat.databases ≡ names
 
--- a call that makes no database leaves the state
-found_leaves : (there : Bool) (r : Reply) (state : State) (moment : ℕ) → with_written (written_by (decided_by (first_refusal (cond there None (Some NoSuchObject)) None) None r) state moment) state ≡ state
-found_leaves true r state moment = refl
-found_leaves false r state moment = refl
+-- ---- what is listed
 
-due_leaves : (state : State) (caller : ℕ) (call : Call) (moment : ℕ) → MakesNone (ask.Client call) → (due state caller (step.Client call moment)).state ≡ state
-due_leaves state caller GetAllDatabases moment none = refl
-due_leaves state caller (GetDatabase name) moment none = found_leaves (is_some (database state.catalogue (lower name))) _ state moment
-due_leaves state caller (CreateDatabase db) moment none = absurd none
-due_leaves state caller (GetNextNotification last max) moment none = refl
-due_leaves state caller GetCurrentNotificationEventId moment none = refl
-
-left_as_it_was : (p : Point) (caller : ℕ) (call : Call) (moment : ℕ) (a : Answer) → MakesNone (ask.Client call) → state_after_answer p.state caller (step.Client call moment) a ≡ p.state
-left_as_it_was p caller call moment answer.NoMemory none = refl
-left_as_it_was p caller call moment answer.StoreFault none = refl
-left_as_it_was p caller call moment (answer.Reply r) none = due_leaves p.state caller call moment none
-
-stays_new : (p : Point) (e : Entry) (call : Call) (moment : ℕ) → p.state.catalogue ≡ new_catalogue → e.0.step ≡ step.Client call moment → MakesNone (ask.Client call) → (next p (took e)).state.catalogue ≡ new_catalogue
-stays_new p e call moment new is none =
-    ap (λ (s : Step). (state_after_answer p.state e.0.caller s e.1.answer).catalogue) is ∙ ap (λ (s : State). s.catalogue) (left_as_it_was p e.0.caller call moment e.1.answer none) ∙ new
-
--- one entry that lists
-one_listing : (p : Point) (e : Entry) (moment : ℕ) → p.state.catalogue ≡ new_catalogue → e.0.step ≡ step.Client GetAllDatabases moment → MayFollow p (took e) → (due : Reply) → IsReplyTo e.1.answer due → (due ≡ Names names) ⊎ (due ≡ out_of_memory)
-one_listing p e moment new is may = listed p e.0.caller moment e.1.fault e.1.answer new (subst (λ (s : Step). MayAnswer p.state p.fault e.0.caller s e.1.answer e.1.fault) is may.1)
+-- a step that writes nothing is answered what is due, or want of memory
+answered_so : (s : State) (before caller after : ℕ) (step : Step) (a : Answer) (wanted : Reply) → writes s step ≡ false → (due_in s caller step).answer ≡ answer.Reply wanted → MayAnswer s before caller step a after → (due : Reply) → IsReplyTo a due → (due ≡ wanted) ⊎ (due ≡ out_of_memory)
+answered_so s before caller after step answer.NoMemory wanted still answers may due is = inr is
+answered_so s before caller after step answer.StoreFault wanted still answers may due is = absurd (false≢true (sym still ∙ may.0))
+answered_so s before caller after step (answer.Reply r) wanted still answers may due is = inl (is ∙ ap reply_in (may ∙ answers))
 
 -- what is sent in place of what is due is want of memory
 instead : (due reply wanted : Reply) → (due ≡ wanted) ⊎ (due ≡ out_of_memory) → (reply ≡ due) ⊎ (reply ≡ out_of_memory) → (reply ≡ wanted) ⊎ (reply ≡ out_of_memory)
@@ -66,36 +64,214 @@ instead due reply wanted is (inr none) = inr none
 instead due reply wanted (inl is) (inl same) = inl (same ∙ is)
 instead due reply wanted (inr none) (inl same) = inr (same ∙ none)
 
--- one message, and where the history stands behind its entries
+one_listing : (p : Point) (e : Entry) (call : Call) (moment : ℕ) (due reply wanted : Reply) → writes p.state (step.Client call moment) ≡ false → (due_in p.state e.0.caller (step.Client call moment)).answer ≡ answer.Reply wanted
+    → e.0.step ≡ step.Client call moment → MayFollow p (took e) → IsReplyTo e.1.answer due → (reply ≡ due) ⊎ (reply ≡ out_of_memory) → (reply ≡ wanted) ⊎ (reply ≡ out_of_memory)
+one_listing p e call moment due reply wanted still answers is may told which =
+    instead due reply wanted
+    (answered_so p.state p.fault e.0.caller e.1.fault (step.Client call moment) e.1.answer wanted still answers (subst (λ (s : Step). MayAnswer p.state p.fault e.0.caller s e.1.answer e.1.fault) is may.1) due told)
+    which
+
+lists : (p : Point) (e : Entry) (call : Call) (moment : ℕ) (due reply : Reply) → HasDefault p.state.catalogue → e.0.step ≡ step.Client call moment → MayFollow p (took e) → IsReplyTo e.1.answer due → (reply ≡ due) ⊎ (reply ≡ out_of_memory) → Lists names (ask.Client call) reply
+lists p e GetAllDatabases moment due reply has is may told which = one_listing p e GetAllDatabases moment due reply (Names names) refl (ap (λ (l : List (List ℕ)). answer.Reply (Names l)) has) is may told which
+lists p e (GetDatabases pattern) moment due reply has is may told which =
+    one_listing p e (GetDatabases pattern) moment due reply (Names (matching pattern names)) refl (ap (λ (l : List (List ℕ)). answer.Reply (Names (matching pattern l))) has) is may told which
+lists p e (GetDatabase name) moment due reply has is may told which = tt
+lists p e (CreateDatabase db) moment due reply has is may told which = tt
+lists p e (DropDatabase name cascade) moment due reply has is may told which = tt
+lists p e (AlterDatabase name db) moment due reply has is may told which = tt
+lists p e (CreateTable new) moment due reply has is may told which = tt
+lists p e (DropTable db name) moment due reply has is may told which = tt
+lists p e (GetTables db pattern) moment due reply has is may told which = tt
+lists p e (GetAllTables db) moment due reply has is may told which = tt
+lists p e (GetTable db name) moment due reply has is may told which = tt
+lists p e (GetTableReq db name) moment due reply has is may told which = tt
+lists p e (GetTableObjectsByName db tables) moment due reply has is may told which = tt
+lists p e (AlterTable db name new) moment due reply has is may told which = tt
+lists p e (GetFields db name) moment due reply has is may told which = tt
+lists p e (GetSchema db name) moment due reply has is may told which = tt
+lists p e (GetNextNotification last max) moment due reply has is may told which = tt
+lists p e GetCurrentNotificationEventId moment due reply has is may told which = tt
+
+-- ---- what changes no name of a database
+
+tables_keep : (o : Option HeldDb) (db : List ℕ) (change : List (List ℕ × HeldTable) → List (List ℕ × HeldTable)) (cat : Catalogue) → keys_of (changed_in o db change cat).databases ≡ keys_of cat.databases
+tables_keep None db change cat = refl
+tables_keep (Some held) db change cat = keys-set_value (is_name db) cat.databases (with_tables (change held.tables) held)
+
+-- an operation on tables alone
+abbrev IsOnTables : Op → Type 0
+IsOnTables (PutDb rec) = ⊥
+IsOnTables DropDb = ⊥
+IsOnTables (PutTable table at rec) = ⊤
+IsOnTables (DropTableOp table at) = ⊤
+IsOnTables (MoveTable table at to rec) = ⊤
+IsOnTables (PutPart table at values rec) = ⊤
+IsOnTables (DropPart table at values) = ⊤
+IsOnTables (MovePart table at values to rec) = ⊤
+
+op_keeps : (name : List ℕ) (born : ℕ) (cat : Catalogue) (op : Op) → IsOnTables op → keys_of (done_op name born cat op).databases ≡ keys_of cat.databases
+op_keeps name born cat (PutDb rec) on = absurd on
+op_keeps name born cat DropDb on = absurd on
+op_keeps name born cat (PutTable table at rec) on = tables_keep (database cat name) name (put_table table at rec) cat
+op_keeps name born cat (DropTableOp table at) on = tables_keep (database cat name) name (without_table table) cat
+op_keeps name born cat (MoveTable table at to rec) on = tables_keep (database cat name) name (λ tables. without_table table (put_table to at rec tables)) cat
+op_keeps name born cat (PutPart table at values rec) on = refl
+op_keeps name born cat (DropPart table at values) on = refl
+op_keeps name born cat (MovePart table at values to rec) on = refl
+
+ops_keep : (name : List ℕ) (born : ℕ) (cat : Catalogue) (ops : List Op) → AllByRecursion IsOnTables ops → keys_of (done_ops name born cat ops).databases ≡ keys_of cat.databases
+ops_keep name born cat [] on = refl
+ops_keep name born cat (op ∷ ops) on = ops_keep name born (done_op name born cat op) ops on.1 ∙ op_keeps name born cat op on.0
+
+table_keeps : (c : Change) (cat : Catalogue) → AllByRecursion IsOnTables c.ops → HasDefault cat → HasDefault (done c cat)
+table_keeps c cat on has = ops_keep c.db c.db_born cat c.ops on ∙ has
+
+either_on : (b : Bool) (xs ys : List Op) → AllByRecursion IsOnTables xs → AllByRecursion IsOnTables ys → AllByRecursion IsOnTables (cond b xs ys)
+either_on true xs ys left right = left
+either_on false xs ys left right = right
+
+put_on : (o : Option HeldTable) (name : List ℕ) (new : TableArg) (moment : ℕ) → AllByRecursion IsOnTables (table_put o name new moment)
+put_on None name new moment = tt
+put_on (Some held) name new moment = either_on (renames new name) _ _ (tt, tt) (tt, tt)
+
+-- ---- rules
+
+abbrev first_test : List Rule → Bool
+first_test [] = false
+first_test (rule ∷ rules) = rule.0
+
+abbrev later_rules : List Rule → List Rule
+later_rules [] = []
+later_rules (rule ∷ rules) = rules
+
+none_first : (rules : List Rule) → first_broken rules ≡ None → (first_test rules ≡ false) × (first_broken (later_rules rules) ≡ None)
+none_first [] is = (refl, refl)
+none_first (rule ∷ rules) is = by_test rule.0 is
+  where
+    by_test : (b : Bool) → cond b (Some rule.1) (first_broken rules) ≡ None → (b ≡ false) × (first_broken rules ≡ None)
+    by_test true same = absurd cc
+    by_test false same = (refl, same)
+
+not_false : (b : Bool) → not b ≡ false → b ≡ true
+not_false true is = refl
+not_false false is = absurd cc
+
+-- ---- altering a database
+
+put_keeps : (name : List ℕ) (held : HeldDb) (es : List (List ℕ × HeldDb)) → is_some (at_name name es) ≡ true → keys_of (put_at name held es) ≡ keys_of es
+put_keeps name held es there =
+    ap (λ (b : Bool). keys_of (cond b (set_value (is_name name) es held) (insert_entry (slice_cmp nat_cmp) es name held))) there ∙ keys-set_value (is_name name) es held
+
+altered : (cat : Catalogue) (bars : Bars) (name : List ℕ) (db : DbArg) → HasDefault cat → first_broken (alter_database_rules cat bars name db) ≡ None → HasDefault (done (database_altered cat name db) cat)
+altered cat bars name db has is = put_keeps name _ cat.databases (not_false (has_database cat name) (none_first (alter_database_rules cat bars name db) is).0) ∙ has
+
+-- ---- dropping a database
+
+any_key : (test : List ℕ → Bool) (es : List (List ℕ × HeldDb)) → is_some (lookup test es) ≡ list_any test (keys_of es)
+any_key test [] = refl
+any_key test (e ∷ es) = by_test (test e.0) (any_key test es)
+  where
+    by_test : (b : Bool) → is_some (lookup test es) ≡ list_any test (keys_of es) → is_some (cond b (Some e.1) (lookup test es)) ≡ (b || list_any test (keys_of es))
+    by_test true later = refl
+    by_test false later = later
+
+or_nothing : (b : Bool) → (b || false) ≡ true → b ≡ true
+or_nothing true is = refl
+or_nothing false is = absurd cc
+
+only_default : (cat : Catalogue) (name : List ℕ) → HasDefault cat → has_database cat name ≡ true → bytes_eq name (codes "default") ≡ true
+only_default cat name has there =
+    let any : list_any (is_name name) names ≡ true = ap (λ (l : List (List ℕ)). list_any (is_name name) l) (sym has) ∙ sym (any_key (is_name name) cat.databases) ∙ there in
+    sym (is_eq-slice_cmp name (codes "default")) ∙ or_nothing (is_name name (codes "default")) any
+
+-- `default` isn't dropped, and no other database is there
+never_dropped : (cat : Catalogue) (bars : Bars) (name : List ℕ) (cascade : Bool) → HasDefault cat → first_broken (drop_database_rules cat bars name cascade) ≡ None → ⊥
+never_dropped cat bars name cascade has is =
+    let rules : List Rule = drop_database_rules cat bars name cascade in
+    let there = none_first rules is in
+    let other = none_first (later_rules rules) there.1 in
+    false≢true (sym other.0 ∙ only_default cat name has (not_false (has_database cat name) there.0))
+
+-- ---- what a call leaves
+
+-- the state after a decision with this refusal, if any, and this change
+abbrev left : State → ℕ → Option Refusal → Option Change → Reply → State
+left s moment o c r = with_written (written_by (decided_by o c r) s moment) s
+
+-- a call that changes nothing
+reads : (s : State) (moment : ℕ) (o : Option Refusal) (r : Reply) → HasDefault s.catalogue → HasDefault (left s moment o None r).catalogue
+reads s moment None r has = has
+reads s moment (Some refusal) r has = has
+
+-- a call that changes something where its rules aren't broken
+changes : (s : State) (moment : ℕ) (rules : List Rule) (late : Option Refusal) (c : Change) (r : Reply) → (first_broken rules ≡ None → HasDefault (done c s.catalogue)) → HasDefault s.catalogue → HasDefault (left s moment (first_refusal (first_broken rules) late) (Some c) r).catalogue
+changes s moment rules late c r keeps has = by_rules (first_broken rules) refl
+  where
+    by_operation : (b : Bool) → HasDefault (done c s.catalogue) → HasDefault (with_written (cond b (Some (kept (next_event s moment c))) None) s).catalogue
+    by_operation true after = after
+    by_operation false after = has
+
+    by_number : (o : Option Refusal) → HasDefault (done c s.catalogue) → HasDefault (left s moment o (Some c) r).catalogue
+    by_number None after = by_operation (has_operation c) after
+    by_number (Some refusal) after = has
+
+    by_rules : (o : Option Refusal) → first_broken rules ≡ o → HasDefault (left s moment (first_refusal o late) (Some c) r).catalogue
+    by_rules None is = by_number late (keeps is)
+    by_rules (Some refusal) is = has
+
+-- a call that makes no database leaves `default` alone
+leaves : (s : State) (caller : ℕ) (call : Call) (moment : ℕ) → MakesNone (ask.Client call) → HasDefault s.catalogue → HasDefault (due_in s caller (step.Client call moment)).state.catalogue
+leaves s caller GetAllDatabases moment none has = reads s moment (refusal s.catalogue (bars_of s) GetAllDatabases moment (s.newest + 1)) (result_of s.catalogue (bars_of s) GetAllDatabases moment (s.newest + 1)) has
+leaves s caller (GetDatabase name) moment none has = reads s moment (refusal s.catalogue (bars_of s) (GetDatabase name) moment (s.newest + 1)) (result_of s.catalogue (bars_of s) (GetDatabase name) moment (s.newest + 1)) has
+leaves s caller (CreateDatabase db) moment none has = absurd none
+leaves s caller (DropDatabase name cascade) moment none has = changes s moment (rules_of s.catalogue (bars_of s) (DropDatabase name cascade)) (lacks_number (Some (database_dropped s.catalogue (kept_name (Some name)))) (s.newest + 1)) (database_dropped s.catalogue (kept_name (Some name))) (result_of s.catalogue (bars_of s) (DropDatabase name cascade) moment (s.newest + 1)) (λ is. absurd (never_dropped s.catalogue (bars_of s) (kept_name (Some name)) cascade has is)) has
+leaves s caller (GetDatabases pattern) moment none has = reads s moment (refusal s.catalogue (bars_of s) (GetDatabases pattern) moment (s.newest + 1)) (result_of s.catalogue (bars_of s) (GetDatabases pattern) moment (s.newest + 1)) has
+leaves s caller (AlterDatabase name db) moment none has = changes s moment (rules_of s.catalogue (bars_of s) (AlterDatabase name db)) (lacks_number (Some (database_altered s.catalogue (kept_name (Some name)) db)) (s.newest + 1)) (database_altered s.catalogue (kept_name (Some name)) db) (result_of s.catalogue (bars_of s) (AlterDatabase name db) moment (s.newest + 1)) (λ is. altered s.catalogue (bars_of s) (kept_name (Some name)) db has is) has
+leaves s caller (CreateTable new) moment none has = changes s moment (rules_of s.catalogue (bars_of s) (CreateTable new)) (lacks_number (Some (table_created s.catalogue new moment (s.newest + 1))) (s.newest + 1)) (table_created s.catalogue new moment (s.newest + 1)) (result_of s.catalogue (bars_of s) (CreateTable new) moment (s.newest + 1)) (λ is. table_keeps (table_created s.catalogue new moment (s.newest + 1)) s.catalogue (tt, tt) has) has
+leaves s caller (DropTable db name) moment none has = changes s moment (rules_of s.catalogue (bars_of s) (DropTable db name)) (lacks_number (Some (table_dropped s.catalogue (kept_name (Some db)) (kept_name (Some name)))) (s.newest + 1)) (table_dropped s.catalogue (kept_name (Some db)) (kept_name (Some name))) (result_of s.catalogue (bars_of s) (DropTable db name) moment (s.newest + 1)) (λ is. table_keeps (table_dropped s.catalogue (kept_name (Some db)) (kept_name (Some name))) s.catalogue (tt, tt) has) has
+leaves s caller (GetTables db pattern) moment none has = reads s moment (refusal s.catalogue (bars_of s) (GetTables db pattern) moment (s.newest + 1)) (result_of s.catalogue (bars_of s) (GetTables db pattern) moment (s.newest + 1)) has
+leaves s caller (GetAllTables db) moment none has = reads s moment (refusal s.catalogue (bars_of s) (GetAllTables db) moment (s.newest + 1)) (result_of s.catalogue (bars_of s) (GetAllTables db) moment (s.newest + 1)) has
+leaves s caller (GetTable db name) moment none has = reads s moment (refusal s.catalogue (bars_of s) (GetTable db name) moment (s.newest + 1)) (result_of s.catalogue (bars_of s) (GetTable db name) moment (s.newest + 1)) has
+leaves s caller (GetTableReq db name) moment none has = reads s moment (refusal s.catalogue (bars_of s) (GetTableReq db name) moment (s.newest + 1)) (result_of s.catalogue (bars_of s) (GetTableReq db name) moment (s.newest + 1)) has
+leaves s caller (GetTableObjectsByName db tables) moment none has = reads s moment (refusal s.catalogue (bars_of s) (GetTableObjectsByName db tables) moment (s.newest + 1)) (result_of s.catalogue (bars_of s) (GetTableObjectsByName db tables) moment (s.newest + 1)) has
+leaves s caller (AlterTable db name new) moment none has = changes s moment (rules_of s.catalogue (bars_of s) (AlterTable db name new)) (lacks_number (Some (table_altered s.catalogue (kept_name (Some db)) (kept_name (Some name)) new moment)) (s.newest + 1)) (table_altered s.catalogue (kept_name (Some db)) (kept_name (Some name)) new moment) (result_of s.catalogue (bars_of s) (AlterTable db name new) moment (s.newest + 1)) (λ is. table_keeps (table_altered s.catalogue (kept_name (Some db)) (kept_name (Some name)) new moment) s.catalogue (put_on (table s.catalogue (kept_name (Some db)) (kept_name (Some name))) (kept_name (Some name)) new moment) has) has
+leaves s caller (GetFields db name) moment none has = reads s moment (refusal s.catalogue (bars_of s) (GetFields db name) moment (s.newest + 1)) (result_of s.catalogue (bars_of s) (GetFields db name) moment (s.newest + 1)) has
+leaves s caller (GetSchema db name) moment none has = reads s moment (refusal s.catalogue (bars_of s) (GetSchema db name) moment (s.newest + 1)) (result_of s.catalogue (bars_of s) (GetSchema db name) moment (s.newest + 1)) has
+leaves s caller (GetNextNotification last max) moment none has = reads s moment (refusal s.catalogue (bars_of s) (GetNextNotification last max) moment (s.newest + 1)) (result_of s.catalogue (bars_of s) (GetNextNotification last max) moment (s.newest + 1)) has
+leaves s caller GetCurrentNotificationEventId moment none has = reads s moment (refusal s.catalogue (bars_of s) GetCurrentNotificationEventId moment (s.newest + 1)) (result_of s.catalogue (bars_of s) GetCurrentNotificationEventId moment (s.newest + 1)) has
+
+stays : (p : Point) (caller : ℕ) (call : Call) (moment : ℕ) (a : Answer) → MakesNone (ask.Client call) → HasDefault p.state.catalogue → HasDefault (state_after_answer p.state caller (step.Client call moment) a).catalogue
+stays p caller call moment answer.NoMemory none has = has
+stays p caller call moment answer.StoreFault none has = has
+stays p caller call moment (answer.Reply r) none has = leaves p.state caller call moment none has
+
+-- ---- messages
+
+-- where the history stands behind the entries of a message
 abbrev Behind : List Entry → Type 0
-Behind more = (q : Point) × (q.state.catalogue ≡ new_catalogue) × IsLegal q (map took more)
+Behind more = (q : Point) × HasDefault q.state.catalogue × IsLegal q (map took more)
 
 -- a call of the catalogue that makes no database
-one_call : (p : Point) (call : Call) (entries more : List Entry) (before after : Option Files) (due reply : Reply) → p.state.catalogue ≡ new_catalogue → MakesNone (ask.Client call) → IsLegal p (map took (entries ++ more)) → Due (ask.Client call) entries before after due → Behind more
-one_call p call entries more before after due reply new none legal d =
+one_call : (p : Point) (call : Call) (entries more : List Entry) (before after : Option Files) (due reply : Reply) → HasDefault p.state.catalogue → MakesNone (ask.Client call) → IsLegal p (map took (entries ++ more)) → Due (ask.Client call) entries before after due → (reply ≡ due) ⊎ (reply ≡ out_of_memory)
+    → Lists names (ask.Client call) reply × Behind more
+one_call p call entries more before after due reply has none legal d which =
     let all : IsLegal p (map took ((d.0 ∷ []) ++ more)) = subst (λ (es : List Entry). IsLegal p (map took (es ++ more))) d.2 legal in
-    (next p (took d.0), stays_new p d.0 call d.1 new d.3 none, all.1)
+    let behind : HasDefault (next p (took d.0)).state.catalogue = subst (λ (s : Step). HasDefault (state_after_answer p.state d.0.0.caller s d.0.1.answer).catalogue) (sym d.3) (stays p d.0.0.caller call d.1 d.0.1.answer none has) in
+    (lists p d.0 call d.1 due reply has d.3 all.0 d.4 which, (next p (took d.0), behind, all.1))
 
 -- what is no call
-no_call : (p : Point) (entries more : List Entry) → p.state.catalogue ≡ new_catalogue → IsLegal p (map took (entries ++ more)) → entries ≡ [] → Behind more
-no_call p entries more new legal is = (p, new, subst (λ (es : List Entry). IsLegal p (map took (es ++ more))) is legal)
+no_call : (p : Point) (entries more : List Entry) → HasDefault p.state.catalogue → IsLegal p (map took (entries ++ more)) → entries ≡ [] → Behind more
+no_call p entries more has legal is = (p, has, subst (λ (es : List Entry). IsLegal p (map took (es ++ more))) is legal)
 
-one_message : (p : Point) (asked : Asked) (entries more : List Entry) (before after : Option Files) (due reply : Reply) → p.state.catalogue ≡ new_catalogue → MakesNone asked → IsLegal p (map took (entries ++ more)) → Due asked entries before after due → (reply ≡ due) ⊎ (reply ≡ out_of_memory)
+one_message : (p : Point) (asked : Asked) (entries more : List Entry) (before after : Option Files) (due reply : Reply) → HasDefault p.state.catalogue → MakesNone asked → IsLegal p (map took (entries ++ more)) → Due asked entries before after due → (reply ≡ due) ⊎ (reply ≡ out_of_memory)
     → Lists names asked reply × Behind more
-one_message p (ask.Client GetAllDatabases) entries more before after due reply new none legal d which =
-    let all : IsLegal p (map took ((d.0 ∷ []) ++ more)) = subst (λ (es : List Entry). IsLegal p (map took (es ++ more))) d.2 legal in
-    let one = one_listing p d.0 d.1 new d.3 all.0 due d.4 in
-    (instead due reply (Names names) one which, one_call p GetAllDatabases entries more before after due reply new tt legal d)
-one_message p (ask.Client (GetDatabase name)) entries more before after due reply new none legal d which = (tt, one_call p (GetDatabase name) entries more before after due reply new tt legal d)
-one_message p (ask.Client (CreateDatabase db)) entries more before after due reply new none legal d which = absurd none
-one_message p (ask.Client (GetNextNotification last max)) entries more before after due reply new none legal d which = (tt, one_call p (GetNextNotification last max) entries more before after due reply new tt legal d)
-one_message p (ask.Client GetCurrentNotificationEventId) entries more before after due reply new none legal d which = (tt, one_call p GetCurrentNotificationEventId entries more before after due reply new tt legal d)
-one_message p (ask.Plain r) entries more before after due reply new none legal d which = (tt, no_call p entries more new legal d.0)
-one_message p ask.Unknown entries more before after due reply new none legal d which = (tt, no_call p entries more new legal d.0)
-one_message p (ask.BadArgument id) entries more before after due reply new none legal d which = (tt, no_call p entries more new legal d.0)
-one_message p ask.Shutdown entries more before after due reply new none legal d which = absurd d
+one_message p (ask.Client call) entries more before after due reply has none legal d which = one_call p call entries more before after due reply has none legal d which
+one_message p (ask.Plain r) entries more before after due reply has none legal d which = (tt, no_call p entries more has legal d.0)
+one_message p ask.Unknown entries more before after due reply has none legal d which = (tt, no_call p entries more has legal d.0)
+one_message p (ask.BadArgument id) entries more before after due reply has none legal d which = (tt, no_call p entries more has legal d.0)
+one_message p ask.Shutdown entries more before after due reply has none legal d which = absurd d
 
-all_turns : (p : Point) (turns : List Turn) → p.state.catalogue ≡ new_catalogue → AllByRecursion IsTurn turns → AllByRecursion (λ (turn : Turn). MakesNone (asks turn.message)) turns → IsLegal p (map took (flat_map (λ turn. turn.entries) turns))
+all_turns : (p : Point) (turns : List Turn) → HasDefault p.state.catalogue → AllByRecursion IsTurn turns → AllByRecursion (λ (turn : Turn). MakesNone (asks turn.message)) turns → IsLegal p (map took (flat_map (λ turn. turn.entries) turns))
     → AllByRecursion (λ (turn : Turn). Lists names (asks turn.message) turn.reply) turns
 all_turns p [] new each none legal = tt
 all_turns p (t ∷ ts) new each none legal =

@@ -1,30 +1,35 @@
 -- What a store answers to a call is a reply that the call can have.
-use Rattle.std.proofs.Common.{◌≡◌, ℕ, Bool, true, false, List, [], ◌∷◌, ◌++◌, map, Option, Some, None, is_some, IsSome, IfOk, Result, Ok, Err, ℤ, refl, sym, ap, subst}
+use Rattle.std.proofs.Common.{◌≡◌, ◌&&◌, ℕ, Bool, true, false, not, nat_lt, List, [], ◌∷◌, ◌++◌, map, Option, Some, None, is_some, IsSome, IfOk, Result, Ok, Err, ℤ, inl, inr, refl, sym, ap, subst}
 use Rattle.std.proofs.lemmas.Bool.{false≢true}
-use Rattle.std.specs.Prelude.{◌+◌, cond, length, nat_le, nat_lt, not}
+use Rattle.std.specs.Prelude.{◌+◌, cond}
 use Rattle.cat_types.specs.declared.calls.Call.{Call}
-use Rattle.cat_types.specs.declared.calls.Call.TheVariants.{CreateDatabase, GetAllDatabases, GetCurrentNotificationEventId, GetDatabase, GetNextNotification}
+use Rattle.cat_types.specs.declared.calls.Call.TheVariants.{AlterDatabase, AlterTable, CreateDatabase, CreateTable, DropDatabase, DropTable, GetAllDatabases, GetAllTables, GetCurrentNotificationEventId, GetDatabase, GetDatabases, GetFields, GetNextNotification, GetSchema, GetTable, GetTableObjectsByName, GetTableReq, GetTables}
 use Rattle.cat_types.specs.declared.changes.Change.{Change}
 use Rattle.cat_types.specs.declared.replies.Reply.{Reply}
-use Rattle.cat_types.specs.declared.replies.Reply.TheVariants.{Nothing, Refused}
+use Rattle.cat_types.specs.declared.replies.Reply.TheVariants.{Refused}
 use Rattle.cat_types.specs.declared.steps.Answer.{Answer}
 use Rattle.cat_types.specs.declared.steps.Answer.TheVariants as answer
 use Rattle.cat_types.specs.declared.steps.Step.{Step}
 use Rattle.cat_types.specs.declared.steps.Step.TheVariants as step
-use Rattle.catalogue.specs.Catalogue.{database, has_database}
-use Rattle.cat_types.specs.declared.changes.EventKind.TheVariants as kind
-use Rattle.cat_types.specs.declared.changes.Op.TheVariants.{PutDb}
+use Rattle.catalogue.specs.Catalogue.{Catalogue, database, table}
+use Rattle.catalogue.specs.Changes.{has_operation}
+use Rattle.catalogue.specs.Databases.{Rule, kept_name, shown_as}
 use Rattle.catalogue.specs.Decisions.{decided_by}
-use Rattle.catalogue.specs.Rules.{first_refusal, is_named, kept_name, kept_record, lower, shown_as}
-use Rattle.catalogue.specs.declared.refusal.Refusal.TheVariants.{AlreadyExists, EventNumbersUsedUp, InvalidObject, NoSuchObject}
+use Rattle.catalogue.specs.Polls.{poll_of}
+use Rattle.catalogue.specs.Refusals.{refusal_reply}
+use Rattle.catalogue.specs.Rules.{breaks, change, first_broken, first_refusal, lacks_number, requested_table, result_of, rules_of}
+use Rattle.catalogue.specs.Tables.{columns_as, get_table_req_rules, schema_as, table_as}
+use Rattle.catalogue.specs.declared.poll.Poll.{Poll}
+use Rattle.catalogue.specs.declared.refusal.Refusal.{Refusal}
+use Rattle.catalogue.specs.declared.refusal.Refusal.TheVariants.{EventNumbersUsedUp, InvalidRequest, NoSuchObject}
 use Rattle.desk.specs.History.{Entry, IsLegal, Legal, MayFollow, Point, Start, next, point_of, took}
-use Rattle.desk.specs.State.{MayAnswer, bars_of, reply_by}
+use Rattle.desk.specs.State.{MayAnswer, State, bars_of, decision_of, reply_by, reply_in as due_reply}
 use Rattle.ms_calls.specs.declared.method.Method.{Method}
 use Rattle.ms_calls.specs.declared.method.Method.TheVariants as method
 use Rattle.ms_calls.specs.Asked.{CameAs, IsMethodOf}
 use Rattle.ms_calls.specs.Exceptions.{declared_id, general_code}
 use Rattle.ms_calls.specs.Refusals.{out_of_memory, store_fault}
-use Rattle.ms_calls.specs.Replies.{CanReply, refused_as}
+use Rattle.ms_calls.specs.Replies.{CanReply, fields_of_reply, refused_as}
 use Rattle.ms_session.specs.Turns.{IsReplyTo}
 
 -- ---- results of calls
@@ -49,41 +54,112 @@ pub only_replies : {E : Type 0} (a : Answer) (result : Result Reply E) → IfOk 
 only_replies a (Ok reply) is = only_reply a reply is
 only_replies a (Err e) is = tt
 
--- a reply that is another, which the call can have
-same_can : (m : Method) (r s : Reply) → answer.Reply r ≡ answer.Reply s → CanReply (Some m) s → CanReply (Some m) r
-same_can m r s is can = subst (CanReply (Some m)) (sym (ap reply_in is)) can
+-- ---- refusals
 
-got : {R : Type 0} (held : Option R) (shown : Option R → Reply) (r : Reply) → ((found : R) → CanReply (Some method.GetDatabase) (shown (Some found)))
-    → answer.Reply r ≡ answer.Reply (reply_by (decided_by (first_refusal (cond (is_some held) None (Some NoSuchObject)) None) None (shown held))) → CanReply (Some method.GetDatabase) r
-got None shown r can is = same_can method.GetDatabase r _ is refl
-got (Some found) shown r can is = same_can method.GetDatabase r _ is (can found)
+-- whether a call can be answered a refusal under a name of its own
+abbrev tells : Method → Refusal → Bool
+tells m refusal = is_some (fields_of_reply (Some m) (refusal_reply refusal))
 
-made : (unnamed there full out : Bool) (change : Change) (r : Reply)
-    → answer.Reply r ≡ answer.Reply (reply_by (decided_by (first_refusal (cond unnamed (Some InvalidObject) (cond there (Some AlreadyExists) (cond full (Some InvalidObject) None))) (cond out (Some EventNumbersUsedUp) None)) (Some change) Nothing)) → CanReply (Some method.CreateDatabase) r
-made true there full out change r is = same_can method.CreateDatabase r _ is refl
-made false true full out change r is = same_can method.CreateDatabase r _ is refl
-made false false true out change r is = same_can method.CreateDatabase r _ is refl
-made false false false true change r is = same_can method.CreateDatabase r _ is refl
-made false false false false change r is = same_can method.CreateDatabase r _ is refl
+-- whether it can be answered each refusal of these rules
+abbrev tells_all : Method → List Rule → Bool
+tells_all m [] = true
+tells_all m (rule ∷ rules) = tells m rule.1 && tells_all m rules
 
--- what a call is answered under the one name that it has
+both : (a b : Bool) → (a && b) ≡ true → (a ≡ true) × (b ≡ true)
+both true b is = (refl, is)
+both false b is = absurd cc
+
+-- a rule that is broken is among them
+broken : (m : Method) (rules : List Rule) (refusal : Refusal) → tells_all m rules ≡ true → first_broken rules ≡ Some refusal → tells m refusal ≡ true
+broken m [] refusal all is = absurd cc
+broken m (rule ∷ rules) refusal all is =
+    let each = both (tells m rule.1) (tells_all m rules) all in
+    by_test rule.0 is each.0 (λ later. broken m rules refusal each.1 later)
+  where
+    by_test : (b : Bool) → cond b (Some rule.1) (first_broken rules) ≡ Some refusal → tells m rule.1 ≡ true → (first_broken rules ≡ Some refusal → tells m refusal ≡ true) → tells m refusal ≡ true
+    by_test true same one later = let e : rule.1 ≡ refusal = cc in subst (λ (x : Refusal). tells m x ≡ true) e one
+    by_test false same one later = later same
+
+-- so is the end of event numbers, where it comes
+numbered : (m : Method) (o : Option Change) (next : ℕ) (refusal : Refusal) → tells m EventNumbersUsedUp ≡ true → lacks_number o next ≡ Some refusal → tells m refusal ≡ true
+numbered m None next refusal one is = absurd cc
+numbered m (Some change) next refusal one is = by_test (has_operation change && nat_lt 9223372036854775807 next) is
+  where
+    by_test : (b : Bool) → cond b (Some EventNumbersUsedUp) None ≡ Some refusal → tells m refusal ≡ true
+    by_test true same = let e : EventNumbersUsedUp ≡ refusal = cc in subst (λ (x : Refusal). tells m x ≡ true) e one
+    by_test false same = absurd cc
+
+-- what is decided by rules can be answered where each of their refusals can, the end of event numbers, and the result where none of them is broken
+decided : (m : Method) (rules : List Rule) (change : Option Change) (next : ℕ) (result : Reply) → tells_all m rules ≡ true → tells m EventNumbersUsedUp ≡ true → (first_broken rules ≡ None → CanReply (Some m) result)
+    → CanReply (Some m) (reply_by (decided_by (first_refusal (first_broken rules) (lacks_number change next)) change result))
+decided m rules change next result all one can = by_rules (first_broken rules) refl
+  where
+    by_number : (o : Option Refusal) → lacks_number change next ≡ o → CanReply (Some m) result → CanReply (Some m) (reply_by (decided_by o change result))
+    by_number None is has = has
+    by_number (Some refusal) is has = numbered m change next refusal one is
+
+    by_rules : (o : Option Refusal) → first_broken rules ≡ o → CanReply (Some m) (reply_by (decided_by (first_refusal o (lacks_number change next)) change result))
+    by_rules None is = by_number (lacks_number change next) refl (can is)
+    by_rules (Some refusal) is = broken m rules refusal all is
+
+-- ---- results
+
+-- where the one rule is that something is there, what is shown is shown of it
+found : {R : Type 0} (m : Method) (held : Option R) (refusal : Refusal) (shown : Option R → Reply) → ((r : R) → CanReply (Some m) (shown (Some r))) → first_broken ((not (is_some held), refusal) ∷ []) ≡ None → CanReply (Some m) (shown held)
+found m None refusal shown can is = absurd cc
+found m (Some r) refusal shown can is = can r
+
+-- the same of a table whose names may be absent
+requested : (cat : Catalogue) (db name : Option (List ℕ)) → first_broken (get_table_req_rules cat db name) ≡ None → CanReply (Some method.GetTableReq) (requested_table cat db name)
+requested cat None name is = absurd cc
+requested cat (Some db) None is = absurd cc
+requested cat (Some db) (Some name) is =
+    found method.GetTableReq (table cat (kept_name (Some db)) (kept_name (Some name))) NoSuchObject (λ held. table_as held (kept_name (Some db)) (kept_name (Some name))) (λ held. refl) is
+
+-- ---- calls
+
+-- what a message with this method can be answered: a fault of the store, and what is due to the call
+record Can (s : State) (call : Call) (moment : ℕ) (m : Method) : Type 0 where
+  fault : CanReply (Some m) store_fault
+  due : CanReply (Some m) (due_reply s (poll_of call) (decision_of s call moment))
+
+-- a call that is no poll, by its rules and its result
+by_rules : (s : State) (call : Call) (moment : ℕ) (m : Method) → poll_of call ≡ None → CanReply (Some m) store_fault → tells_all m (rules_of s.catalogue (bars_of s) call) ≡ true → tells m EventNumbersUsedUp ≡ true
+    → (breaks s.catalogue (bars_of s) call ≡ None → CanReply (Some m) (result_of s.catalogue (bars_of s) call moment (s.newest + 1))) → Can s call moment m
+by_rules s call moment m none fault all one can = record {
+  fault = fault;
+  due = subst (λ (o : Option Poll). CanReply (Some m) (due_reply s o (decision_of s call moment))) (sym none)
+      (decided m (rules_of s.catalogue (bars_of s) call) (change s.catalogue (bars_of s) call moment (s.newest + 1)) (s.newest + 1) (result_of s.catalogue (bars_of s) call moment (s.newest + 1)) all one can);
+}
+
+by_method : (s : State) (call : Call) (moment : ℕ) (m : Method) → IsMethodOf call m → Can s call moment m
+by_method s GetAllDatabases moment m is = subst (λ (n : Method). Can s GetAllDatabases moment n) (sym is) (by_rules s GetAllDatabases moment method.GetAllDatabases refl refl refl refl (λ none. refl))
+by_method s (GetDatabase name) moment m is = subst (λ (n : Method). Can s (GetDatabase name) moment n) (sym is) (by_rules s (GetDatabase name) moment method.GetDatabase refl refl refl refl (found method.GetDatabase (database s.catalogue (kept_name (Some name))) NoSuchObject (λ held. shown_as held (bars_of s).replicas (kept_name (Some name))) (λ held. refl)))
+by_method s (CreateDatabase db) moment m is = subst (λ (n : Method). Can s (CreateDatabase db) moment n) (sym is) (by_rules s (CreateDatabase db) moment method.CreateDatabase refl refl refl refl (λ none. refl))
+by_method s (DropDatabase name cascade) moment m is = subst (λ (n : Method). Can s (DropDatabase name cascade) moment n) (sym is) (by_rules s (DropDatabase name cascade) moment method.DropDatabase refl refl refl refl (λ none. refl))
+by_method s (GetDatabases pattern) moment m is = subst (λ (n : Method). Can s (GetDatabases pattern) moment n) (sym is) (by_rules s (GetDatabases pattern) moment method.GetDatabases refl refl refl refl (λ none. refl))
+by_method s (AlterDatabase name db) moment m is = subst (λ (n : Method). Can s (AlterDatabase name db) moment n) (sym is) (by_rules s (AlterDatabase name db) moment method.AlterDatabase refl refl refl refl (λ none. refl))
+by_method s (CreateTable new) moment m (inl is) = subst (λ (n : Method). Can s (CreateTable new) moment n) (sym is) (by_rules s (CreateTable new) moment method.CreateTable refl refl refl refl (λ none. refl))
+by_method s (CreateTable new) moment m (inr is) = subst (λ (n : Method). Can s (CreateTable new) moment n) (sym is) (by_rules s (CreateTable new) moment method.CreateTableWithEnvironmentContext refl refl refl refl (λ none. refl))
+by_method s (DropTable db name) moment m (inl is) = subst (λ (n : Method). Can s (DropTable db name) moment n) (sym is) (by_rules s (DropTable db name) moment method.DropTable refl refl refl refl (λ none. refl))
+by_method s (DropTable db name) moment m (inr is) = subst (λ (n : Method). Can s (DropTable db name) moment n) (sym is) (by_rules s (DropTable db name) moment method.DropTableWithEnvironmentContext refl refl refl refl (λ none. refl))
+by_method s (GetTables db pattern) moment m is = subst (λ (n : Method). Can s (GetTables db pattern) moment n) (sym is) (by_rules s (GetTables db pattern) moment method.GetTables refl refl refl refl (λ none. refl))
+by_method s (GetAllTables db) moment m is = subst (λ (n : Method). Can s (GetAllTables db) moment n) (sym is) (by_rules s (GetAllTables db) moment method.GetAllTables refl refl refl refl (λ none. refl))
+by_method s (GetTable db name) moment m is = subst (λ (n : Method). Can s (GetTable db name) moment n) (sym is) (by_rules s (GetTable db name) moment method.GetTable refl refl refl refl (found method.GetTable (table s.catalogue (kept_name (Some db)) (kept_name (Some name))) NoSuchObject (λ held. table_as held (kept_name (Some db)) (kept_name (Some name))) (λ held. refl)))
+by_method s (GetTableReq db name) moment m is = subst (λ (n : Method). Can s (GetTableReq db name) moment n) (sym is) (by_rules s (GetTableReq db name) moment method.GetTableReq refl refl refl refl (requested s.catalogue db name))
+by_method s (GetTableObjectsByName db names) moment m is = subst (λ (n : Method). Can s (GetTableObjectsByName db names) moment n) (sym is) (by_rules s (GetTableObjectsByName db names) moment method.GetTableObjectsByName refl refl refl refl (λ none. refl))
+by_method s (AlterTable db name new) moment m (inl is) = subst (λ (n : Method). Can s (AlterTable db name new) moment n) (sym is) (by_rules s (AlterTable db name new) moment method.AlterTable refl refl refl refl (λ none. refl))
+by_method s (AlterTable db name new) moment m (inr is) = subst (λ (n : Method). Can s (AlterTable db name new) moment n) (sym is) (by_rules s (AlterTable db name new) moment method.AlterTableWithEnvironmentContext refl refl refl refl (λ none. refl))
+by_method s (GetFields db name) moment m is = subst (λ (n : Method). Can s (GetFields db name) moment n) (sym is) (by_rules s (GetFields db name) moment method.GetFields refl refl refl refl (found method.GetFields (table s.catalogue (kept_name (Some db)) (kept_name (Some name))) InvalidRequest columns_as (λ held. refl)))
+by_method s (GetSchema db name) moment m is = subst (λ (n : Method). Can s (GetSchema db name) moment n) (sym is) (by_rules s (GetSchema db name) moment method.GetSchema refl refl refl refl (found method.GetSchema (table s.catalogue (kept_name (Some db)) (kept_name (Some name))) InvalidRequest schema_as (λ held. refl)))
+by_method s (GetNextNotification last max) moment m is = subst (λ (n : Method). Can s (GetNextNotification last max) moment n) (sym is) (record { fault = refl; due = refl })
+by_method s GetCurrentNotificationEventId moment m is = subst (λ (n : Method). Can s GetCurrentNotificationEventId moment n) (sym is) (record { fault = refl; due = refl })
+
+-- what a call is answered under a name that it has
 by_call : (p : Point) (caller : ℕ) (call : Call) (moment : ℕ) (a : Answer) (fault : ℕ) (m : Method) → IsMethodOf call m → MayAnswer p.state p.fault caller (step.Client call moment) a fault → CanReply (Some m) (reply_in a)
 by_call p caller call moment answer.NoMemory fault m is may = refl
-by_call p caller GetAllDatabases moment answer.StoreFault fault m is may = subst (λ (n : Method). CanReply (Some n) store_fault) (sym is) refl
-by_call p caller (GetDatabase name) moment answer.StoreFault fault m is may = subst (λ (n : Method). CanReply (Some n) store_fault) (sym is) refl
-by_call p caller (CreateDatabase db) moment answer.StoreFault fault m is may = subst (λ (n : Method). CanReply (Some n) store_fault) (sym is) refl
-by_call p caller (GetNextNotification last max) moment answer.StoreFault fault m is may = absurd (false≢true may.0)
-by_call p caller GetCurrentNotificationEventId moment answer.StoreFault fault m is may = absurd (false≢true may.0)
-by_call p caller GetAllDatabases moment (answer.Reply r) fault m is may = subst (λ (n : Method). CanReply (Some n) r) (sym is) (same_can method.GetAllDatabases r _ may refl)
-by_call p caller (GetDatabase name) moment (answer.Reply r) fault m is may =
-    subst (λ (n : Method). CanReply (Some n) r) (sym is) (got (database p.state.catalogue (lower name)) (λ held. shown_as held (bars_of p.state).replicas (lower name)) r (λ found. refl) may)
-by_call p caller (CreateDatabase db) moment (answer.Reply r) fault m is may =
-    let next = p.state.newest + 1 in
-    subst (λ (n : Method). CanReply (Some n) r) (sym is)
-    (made (not (is_named db.name)) (has_database p.state.catalogue (kept_name db.name)) (nat_le 1000000 (length p.state.catalogue.databases)) (nat_lt 9223372036854775807 next)
-    (record { kind = kind.CreateDatabase; db = kept_name db.name; db_born = next; ops = PutDb (kept_record db.rec) ∷ [] }) r may)
-by_call p caller (GetNextNotification last max) moment (answer.Reply r) fault m is may = subst (λ (n : Method). CanReply (Some n) r) (sym is) (same_can method.GetNextNotification r _ may refl)
-by_call p caller GetCurrentNotificationEventId moment (answer.Reply r) fault m is may = subst (λ (n : Method). CanReply (Some n) r) (sym is) (same_can method.GetCurrentNotificationEventId r _ may refl)
+by_call p caller call moment answer.StoreFault fault m is may = (by_method p.state call moment m is).fault
+by_call p caller call moment (answer.Reply r) fault m is may = subst (CanReply (Some m)) (sym (ap reply_in may)) (by_method p.state call moment m is).due
 
 can_answer : (p : Point) (caller : ℕ) (call : Call) (moment : ℕ) (a : Answer) (fault : ℕ) (m : Option Method) → CameAs m call → MayAnswer p.state p.fault caller (step.Client call moment) a fault → CanReply m (reply_in a)
 can_answer p caller call moment a fault None came may = absurd came

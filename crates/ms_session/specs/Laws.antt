@@ -2,9 +2,10 @@
 use Rattle.std.specs.Prelude.{◌≡◌, ⊤, ℕ, ◌⊎◌, List, [], ◌∷◌, ◌++◌, codes, map, Option, Some}
 use Rattle.std.specs.List.{AllByRecursion}
 use Rattle.hms_outside.specs.Told.{Goes}
-use Rattle.cat_types.specs.declared.calls.Call.TheVariants.{CreateDatabase, GetAllDatabases, GetCurrentNotificationEventId, GetDatabase, GetNextNotification}
+use Rattle.cat_types.specs.declared.calls.Call.TheVariants.{AlterDatabase, AlterTable, CreateDatabase, CreateTable, DropDatabase, DropTable, GetAllDatabases, GetAllTables, GetCurrentNotificationEventId, GetDatabase, GetDatabases, GetFields, GetNextNotification, GetSchema, GetTable, GetTableObjectsByName, GetTableReq, GetTables}
 use Rattle.cat_types.specs.declared.replies.Reply.{Reply}
 use Rattle.cat_types.specs.declared.replies.Reply.TheVariants.{Names}
+use Rattle.catalogue.specs.Databases.{matching}
 use Rattle.desk.specs.History.{Entry, Legal}
 use Rattle.desk.specs.State.{start}
 use Rattle.thrift_binary.specs.Messages.{Message, Ending, Boundary, Spells, Truncated as TruncatedAt, Bad_at, Large_at}
@@ -51,6 +52,19 @@ abbrev pub MakesNone : Asked → Type 0
 MakesNone (ask.Client (CreateDatabase db)) = ⊥
 MakesNone (ask.Client (GetDatabase name)) = ⊤
 MakesNone (ask.Client GetAllDatabases) = ⊤
+MakesNone (ask.Client (DropDatabase name cascade)) = ⊤
+MakesNone (ask.Client (GetDatabases pattern)) = ⊤
+MakesNone (ask.Client (AlterDatabase name db)) = ⊤
+MakesNone (ask.Client (CreateTable new)) = ⊤
+MakesNone (ask.Client (DropTable db name)) = ⊤
+MakesNone (ask.Client (GetTables db pattern)) = ⊤
+MakesNone (ask.Client (GetAllTables db)) = ⊤
+MakesNone (ask.Client (GetTable db name)) = ⊤
+MakesNone (ask.Client (GetTableReq db name)) = ⊤
+MakesNone (ask.Client (GetTableObjectsByName db tables)) = ⊤
+MakesNone (ask.Client (AlterTable db name new)) = ⊤
+MakesNone (ask.Client (GetFields db name)) = ⊤
+MakesNone (ask.Client (GetSchema db name)) = ⊤
 MakesNone (ask.Client (GetNextNotification last max)) = ⊤
 MakesNone (ask.Client GetCurrentNotificationEventId) = ⊤
 MakesNone (ask.Plain reply) = ⊤
@@ -58,11 +72,24 @@ MakesNone ask.Unknown = ⊤
 MakesNone (ask.BadArgument id) = ⊤
 MakesNone ask.Shutdown = ⊤
 
--- a message that lists the databases was answered these names, or want of memory
+-- a message that lists the databases was answered those of these names that it asks for, or want of memory
 abbrev pub Lists : List (List ℕ) → Asked → Reply → Type 0
 Lists names (ask.Client GetAllDatabases) reply = (reply ≡ Names names) ⊎ (reply ≡ out_of_memory)
-Lists names (ask.Client (GetDatabase name)) reply = ⊤
+Lists names (ask.Client (GetDatabases pattern)) reply = (reply ≡ Names (matching pattern names)) ⊎ (reply ≡ out_of_memory)
 Lists names (ask.Client (CreateDatabase db)) reply = ⊤
+Lists names (ask.Client (GetDatabase name)) reply = ⊤
+Lists names (ask.Client (DropDatabase name cascade)) reply = ⊤
+Lists names (ask.Client (AlterDatabase name db)) reply = ⊤
+Lists names (ask.Client (CreateTable new)) reply = ⊤
+Lists names (ask.Client (DropTable db name)) reply = ⊤
+Lists names (ask.Client (GetTables db pattern)) reply = ⊤
+Lists names (ask.Client (GetAllTables db)) reply = ⊤
+Lists names (ask.Client (GetTable db name)) reply = ⊤
+Lists names (ask.Client (GetTableReq db name)) reply = ⊤
+Lists names (ask.Client (GetTableObjectsByName db tables)) reply = ⊤
+Lists names (ask.Client (AlterTable db name new)) reply = ⊤
+Lists names (ask.Client (GetFields db name)) reply = ⊤
+Lists names (ask.Client (GetSchema db name)) reply = ⊤
 Lists names (ask.Client (GetNextNotification last max)) reply = ⊤
 Lists names (ask.Client GetCurrentNotificationEventId) reply = ⊤
 Lists names (ask.Plain answer) reply = ⊤
@@ -70,7 +97,7 @@ Lists names ask.Unknown reply = ⊤
 Lists names (ask.BadArgument id) reply = ⊤
 Lists names ask.Shutdown reply = ⊤
 
--- where the messages of one caller are all that a new store went through, and none asks for a new database, each listing names `default` alone
+-- where the messages of one caller are all that a new store went through, and none asks for a new database, each listing names `default` alone, if that
 abbrev pub AloneListsDefault : Type 0
 AloneListsDefault = (id : List ℕ) (base : ℕ) (turns : List Turn) (bytes : List ℕ) (clock clock' : Option (List ℕ)) (files files' : Option Files) (entries : List Entry)
     → Carried turns bytes clock clock' files files' entries → Legal (record { state = start id base; fault = 0; past = [] }) entries → AllByRecursion (λ turn. MakesNone (asks turn.message)) turns

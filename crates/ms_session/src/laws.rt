@@ -8,7 +8,8 @@ pub fn whole_texts_are_served()
     ensures { WholeTextsAreServed }
 {}
 
-/// A caller alone at a new store who makes no database is told of `default` alone, at each listing.
+/// A caller alone at a new store who makes no database is told of `default` alone, at each listing, and
+/// by a pattern of `default` where it matches.
 pub fn alone_lists_default()
     ensures { AloneListsDefault }
 {}
