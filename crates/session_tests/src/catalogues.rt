@@ -42,14 +42,22 @@ fn is_placed(decided: &Decided, position: &str) -> bool {
     }
 }
 
+// What is decided of the call that asks for `default`, a live replica.
+fn shown(alloc: Global) -> Result<Decided, Fail> {
+    let bars = live(alloc)?;
+    let name = Text::of(alloc, "default")?;
+    Ok(decided(alloc, &Cat::new(alloc)?, &bars, Call::GetDatabase { name }))
+}
+
+fn decided(alloc: Global, cat: &Cat, bars: &Bars, call: Call) -> Decided
+    requires { poll_of call ≡ None }
+{
+    decide(alloc, cat, bars, &call, 0, 1)
+}
+
 #[test]
 fn a_live_replica_shows_its_position(rt: HostRuntime) -> Result<(), Fail> {
-    let alloc = rt.alloc();
-    let name = Text::of(alloc, "default")?;
-    let call = Call::GetDatabase { name };
-    let bars = live(alloc)?;
-    let cat = Cat::new(alloc)?;
-    let shown = decide(alloc, &cat, &bars, &call, 0, 1);
+    let shown = shown(rt.alloc())?;
     assert!(rt; is_placed(&shown, "9"));
     Ok(())
 }
@@ -64,55 +72,38 @@ fn place(alloc: Global, cat: &mut Cat, call: &Call) -> Option<Placed>
     }
 }
 
+// How many databases there are with `b` placed, and how many when that is taken back.
+fn counts(alloc: Global, cat: &mut Cat, call: &Call) -> Option<(u64, u64)>
+    requires { poll_of call.now ≡ None }
+{
+    let placed = place(alloc, cat, call)?;
+    let with = cat.db_count();
+    cat.take_back(placed);
+    Some((with, cat.db_count()))
+}
+
 #[test]
 fn a_placed_change_is_taken_back(rt: HostRuntime) -> Result<(), Fail> {
     let alloc = rt.alloc();
     let call = create(alloc, "b")?;
     let mut cat = Cat::new(alloc)?;
-    let placed = place(alloc, &mut cat, &call).ok_or("not placed")?;
-    assert_eq!(rt; cat.db_count(), 2);
-    cat.take_back(placed);
-    assert_eq!(rt; cat.db_count(), 1);
+    assert_eq!(rt; counts(alloc, &mut cat, &call), Some((2, 1)));
     Ok(())
 }
 
-// A line for each refusal: its number and its text.
-fn told(alloc: Global, refusals: &[Refusal]) -> Result<String, Fail> {
-    let mut lines = String::new(alloc);
-    for refusal in refusals {
-        let line = format!(in alloc; "{} {}\n", refusal.number(), refusal.text())?;
-        lines.push_str(line.as_str())?;
-    }
-    Ok(lines)
+// Whether a refusal has this number and this text.
+fn is_told(refusal: Refusal, number: u8, text: &str) -> bool {
+    refusal.number() == number && refusal.text() == text
 }
 
 #[test]
-fn refusals_have_numbers_and_texts(rt: HostRuntime) -> Result<(), Fail> {
-    let first = told(
-        rt.alloc(),
-        &[
-            Refusal::AlreadyExists,
-            Refusal::NoSuchObject,
-            Refusal::InvalidObject,
-            Refusal::InvalidOperation,
-        ],
-    )?;
-    assert_eq!(rt;
-        first.as_str(),
-        "1 already exists\n2 no such object\n3 invalid object\n4 invalid operation\n"
-    );
-    let last = told(
-        rt.alloc(),
-        &[
-            Refusal::InvalidInput,
-            Refusal::IsReplica,
-            Refusal::EventNumbersUsedUp,
-            Refusal::InvalidRequest,
-        ],
-    )?;
-    assert_eq!(rt;
-        last.as_str(),
-        "5 invalid input\n7 database is a replica\n12 event numbers used up\n13 invalid request\n"
-    );
-    Ok(())
+fn refusals_have_numbers_and_texts(rt: HostRuntime) {
+    assert!(rt; is_told(Refusal::AlreadyExists, 1, "already exists"));
+    assert!(rt; is_told(Refusal::NoSuchObject, 2, "no such object"));
+    assert!(rt; is_told(Refusal::InvalidObject, 3, "invalid object"));
+    assert!(rt; is_told(Refusal::InvalidOperation, 4, "invalid operation"));
+    assert!(rt; is_told(Refusal::InvalidInput, 5, "invalid input"));
+    assert!(rt; is_told(Refusal::IsReplica, 7, "database is a replica"));
+    assert!(rt; is_told(Refusal::EventNumbersUsedUp, 12, "event numbers used up"));
+    assert!(rt; is_told(Refusal::InvalidRequest, 13, "invalid request"));
 }

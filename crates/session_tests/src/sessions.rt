@@ -43,22 +43,27 @@ fn session<D: Desk>(alloc: Global, source: &mut Pieces<'_>, desk: &mut D) -> (En
     (end, sink)
 }
 
+// The turn of caller 1 that creates `b`.
+fn turns(alloc: Global) -> Result<VecDeque<Foreign>, Fail> {
+    let step = step(create(alloc, "b")?);
+    let mut turns = VecDeque::new(alloc);
+    turns.push_back(Foreign { caller: 1, step })?;
+    Ok(turns)
+}
+
 // Caller 1 creates `b` before the second own step, and again before the third.
 fn script(alloc: Global) -> Result<Script, Fail> {
     let mut script = VecDeque::new(alloc);
     script.push_back(VecDeque::new(alloc))?;
     for _ in 0..2 {
-        let mut turns = VecDeque::new(alloc);
-        let step = step(create(alloc, "b")?);
-        turns.push_back(Foreign { caller: 1, step })?;
-        script.push_back(turns)?;
+        script.push_back(turns(alloc)?)?;
     }
     Ok(script)
 }
 
 fn desk(alloc: Global) -> Result<ScriptDesk<Engine<MemDisk>>, Fail> {
-    let core = new_store(alloc, 0)?;
-    Ok(ScriptDesk::new(core, script(alloc)?))
+    let script = script(alloc)?;
+    Ok(ScriptDesk::new(new_store(alloc)?, script))
 }
 
 // The names of all databases, as often as others' turns come between.
@@ -135,11 +140,12 @@ fn replies(alloc: Global) -> Result<Vec<u8>, AllocError> {
 fn calls_with_arguments_beside_foreign_turns(rt: HostRuntime) -> Result<(), Fail> {
     let alloc = rt.alloc();
     let bytes = &calls(alloc)?;
-    let mut source = Pieces { bytes, piece: 7 };
+    let wanted = replies(alloc)?;
     let mut desk = desk(alloc)?;
+    let mut source = Pieces { bytes, piece: 7 };
     let (end, sink) = session(alloc, &mut source, &mut desk);
     assert_eq!(rt; end, End::Shutdown);
-    assert_eq!(rt; sink.bytes(), replies(alloc)?.as_slice());
+    assert_eq!(rt; sink.bytes(), wanted.as_slice());
     // The listing behind the end of the session is left.
     assert_eq!(rt; source.bytes.len(), 30);
     Ok(())

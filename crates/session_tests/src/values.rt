@@ -1,15 +1,14 @@
-//! Readings of values that no message has yet, a message and a reply by their head alone, the text of
-//! a refusal, and the laws.
+//! Readings of values that no message has yet, a message and a reply by their head alone, and the laws.
 
 use crate::messages::{put_exception, put_listing, put_text};
-use cat_types::{Bytes, Call, PlaceMap, Reply};
+use cat_types::{Bytes, Call, NoMemory, PlaceMap};
 use hms_outside::{MemSink, MemSource};
-use ms_calls::{Asked, asked, order_of_fields_is_free, put_reply, store_fault, unknown_method};
+use ms_calls::{Asked, asked, order_of_fields_is_free, put_reply, unknown_method};
 use ms_session::{alone_lists_default, whole_texts_are_served};
 use ms_structs::{
     FromWire, Got, database_is_said, last_pair_counts, order_is_free, written_is_read,
 };
-use std::alloc::Global;
+use std::alloc::{AllocError, Global};
 use std::test::Fail;
 use thrift_binary::{Head, WireFault, WireReader, WireWriter};
 
@@ -62,44 +61,51 @@ fn maps_with_lists_as_keys_are_read(rt: HostRuntime) -> Result<(), Fail> {
     Ok(())
 }
 
-// The message of these bytes: its head, and what it asks.
-fn message(alloc: Global, bytes: &[u8]) -> Result<(Head, Asked), Fail> {
+// Whether a message was read that asks for the names of all databases.
+fn asks_for_names(asked: Result<Asked, WireFault>) -> bool {
+    matches!(asked, Ok(Asked::Client(Call::GetAllDatabases)))
+}
+
+// The message of these bytes: its head, and whether it asks for the names of all databases.
+fn message(alloc: Global, bytes: &[u8]) -> Result<(Head, bool), Fail> {
     let mut source = source(alloc, bytes)?;
     let mut reader = WireReader::new(&mut source);
     let head = reader.head(alloc)?.ok_or("no message")?;
-    let asked = asked(alloc, &head, &mut reader)?;
-    Ok((head, asked))
+    let asks = asks_for_names(asked(alloc, &head, &mut reader));
+    Ok((head, asks))
 }
 
-// A reply to the message with this head, that nobody knows its name.
-fn unknown(alloc: Global, head: &Head) -> Result<MemSink, Fail> {
+// Gathers a reply to the message with this head, that nobody knows its name.
+fn put_unknown(alloc: Global, writer: &mut WireWriter, head: &Head) -> Result<(), NoMemory> {
     let reply = unknown_method(alloc)?;
+    put_reply(alloc, writer, head, &reply)
+}
+
+fn unknown(alloc: Global, head: &Head) -> Result<MemSink, Fail> {
     let mut writer = WireWriter::new(alloc);
-    put_reply(alloc, &mut writer, head, &reply)?;
+    put_unknown(alloc, &mut writer, head)?;
     let mut sink = MemSink::new(alloc, Vec::new(alloc));
     writer.send(&mut sink)?;
     Ok(sink)
+}
+
+// The message that asks for the names of all databases, and the answer that nobody knows its name.
+fn listing(alloc: Global) -> Result<(Vec<u8>, Vec<u8>), AllocError> {
+    let mut asked = Vec::new(alloc);
+    put_listing(&mut asked)?;
+    let mut wanted = Vec::new(alloc);
+    put_exception(&mut wanted, "get_all_databases", 1, "unknown method", 1)?;
+    Ok((asked, wanted))
 }
 
 // A session looks up a message's method once, and hands it on in place of the head.
 #[test]
 fn a_message_and_a_reply_go_by_the_head(rt: HostRuntime) -> Result<(), Fail> {
     let alloc = rt.alloc();
-    let mut bytes = Vec::new(alloc);
-    put_listing(&mut bytes)?;
-    let (head, asked) = message(alloc, &bytes)?;
-    assert!(rt; matches!(asked, Asked::Client(Call::GetAllDatabases)));
-    let mut wanted = Vec::new(alloc);
-    put_exception(&mut wanted, "get_all_databases", 1, "unknown method", 1)?;
+    let (bytes, wanted) = listing(alloc)?;
+    let (head, asks) = message(alloc, &bytes)?;
+    assert!(rt; asks);
     assert_eq!(rt; unknown(alloc, &head)?.bytes(), wanted.as_slice());
-    Ok(())
-}
-
-// No store that a test has can fail so.
-#[test]
-fn a_store_fault_has_its_text(rt: HostRuntime) -> Result<(), Fail> {
-    let reply = store_fault(rt.alloc())?;
-    assert!(rt; matches!(&reply, Reply::Refused(8, text) if text.as_str() == "store fault"));
     Ok(())
 }
 

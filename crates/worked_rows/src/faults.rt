@@ -2,10 +2,10 @@
 
 ghost use Rattle.std.specs.Prelude.{None};
 
-use crate::disks::{disk_of, new_store};
-use crate::running::{Ran, input_of, left, run, words_of};
+use crate::disks::NEW_STORE;
+use crate::running::{Stage, input_of, source_of, status_over, words_of};
 use crate::showing::{line, numbers, shown};
-use hms_outside::{MemDisk, MemSink, MemSource, Outage, Sink};
+use hms_outside::{MemSink, MemSource, Outage, Sink};
 use std::alloc::Global;
 use table_cases::{Answers, Unable};
 
@@ -28,20 +28,16 @@ impl Answers for Faults {
     fn answer(&self, alloc: Global, input: &str) -> Result<String, Unable> {
         let (word, rest) = input.split_once(' ').unwrap_or((input, ""));
         match word {
-            "whole" => served(alloc, source(alloc, rest)?, &[]),
+            "whole" => served(alloc, source_of(alloc, rest)?, &[]),
             "read" => read(alloc, rest),
             "write" => write(alloc, rest),
-            "full" => without_memory(alloc, source(alloc, rest)?),
-            "words" => started(alloc, rest, &[]),
+            "full" => without_memory(alloc, source_of(alloc, rest)?),
+            "words" => started(alloc, words_of(alloc, rest)?, &[]),
             "long" => long(alloc, rest),
             "made" => made(alloc, rest),
             _ => Err(Unable::Form),
         }
     }
-}
-
-fn source(alloc: Global, digits: &str) -> Result<MemSource, Unable> {
-    Ok(MemSource::new(input_of(alloc, digits)?, Vec::new(alloc)))
 }
 
 // A number, and the bytes behind it.
@@ -58,20 +54,19 @@ fn read(alloc: Global, text: &str) -> Result<String, Unable> {
 
 fn write(alloc: Global, text: &str) -> Result<String, Unable> {
     let (call, digits) = numbered(text)?;
-    served(alloc, source(alloc, digits)?, &[call])
+    served(alloc, source_of(alloc, digits)?, &[call])
 }
 
 // A session over a new store, with an output whose calls with these numbers fail.
 fn served(alloc: Global, source: MemSource, fails: &[u64]) -> Result<String, Unable> {
-    let words = words_of(alloc, "pipe")?;
-    over(alloc, &words, source, fails, new_store(alloc)?)
+    let mut stage = Stage::new(alloc, words_of(alloc, "pipe")?, source)?;
+    over(alloc, &mut stage, fails, &NEW_STORE)
 }
 
 // These words over a disk with no bytes.
-fn started(alloc: Global, words: &str, fails: &[u64]) -> Result<String, Unable> {
-    let words = words_of(alloc, words)?;
-    let empty = disk_of(alloc, &[], &[])?;
-    over(alloc, &words, source(alloc, "00")?, fails, empty)
+fn started(alloc: Global, words: Vec<String>, fails: &[u64]) -> Result<String, Unable> {
+    let mut stage = Stage::new(alloc, words, source_of(alloc, "00")?)?;
+    over(alloc, &mut stage, fails, &[])
 }
 
 // A word of so many zeros in place of an id.
@@ -79,45 +74,37 @@ fn long(alloc: Global, count: &str) -> Result<String, Unable> {
     let count = count.parse::<usize>().or(Err(Unable::Form))?;
     let mut words = words_of(alloc, "init")?;
     words.push("0".repeat(alloc, count)?)?;
-    let empty = disk_of(alloc, &[], &[])?;
-    over(alloc, &words, source(alloc, "00")?, &[], empty)
+    started(alloc, words, &[])
 }
 
 // A store is made, and the output's call with this number fails.
 fn made(alloc: Global, call: &str) -> Result<String, Unable> {
     let call = call.parse::<u64>().or(Err(Unable::Form))?;
-    started(alloc, "init 00112233445566778899aabbccddeeff", &[call])
+    let words = words_of(alloc, "init 00112233445566778899aabbccddeeff")?;
+    started(alloc, words, &[call])
 }
 
-// Runs the words over a source and a disk, with an output whose calls with these numbers fail.
-fn over(
-    alloc: Global,
-    words: &[String],
-    mut source: MemSource,
-    fails: &[u64],
-    disk: MemDisk,
-) -> Result<String, Unable> {
+// Runs over a disk of these bytes, with an output whose calls with these numbers fail.
+fn over(alloc: Global, stage: &mut Stage, fails: &[u64], bytes: &[u8]) -> Result<String, Unable> {
     let mut output = MemSink::new(alloc, fails.to_vec(alloc)?);
-    let ran = run(alloc, words, &mut source, &mut output, disk)?;
-    told(alloc, &ran, &mut source, output.bytes(), output.flushes())
+    let status = status_over(alloc, stage, &mut output, bytes)?;
+    told(alloc, stage, status, output.bytes(), output.flushes())
 }
 
 // What a run leaves that wrote these bytes and flushed at these places.
 fn told(
     alloc: Global,
-    ran: &Ran,
-    source: &mut MemSource,
+    stage: &mut Stage,
+    status: u8,
     bytes: &[u8],
     flushes: &[usize],
 ) -> Result<String, Unable> {
     let replies = shown(alloc, bytes)?;
     let flushes = numbers(alloc, flushes)?;
-    let rest = shown(alloc, &left(alloc, source)?)?;
-    let line = line(ran.errors.bytes())?;
-    Ok(format!(in alloc;
-        "{} {replies} {flushes} {rest} {} {line}",
-        ran.status, ran.moment
-    )?)
+    let rest = shown(alloc, &stage.left(alloc)?)?;
+    let moment = stage.moment();
+    let line = line(stage.errors())?;
+    Ok(format!(in alloc; "{status} {replies} {flushes} {rest} {moment} {line}")?)
 }
 
 // A sink that has no memory.
@@ -138,8 +125,8 @@ impl Sink for Full {
     }
 }
 
-fn without_memory(alloc: Global, mut source: MemSource) -> Result<String, Unable> {
-    let words = words_of(alloc, "pipe")?;
-    let ran = run(alloc, &words, &mut source, &mut Full, new_store(alloc)?)?;
-    told(alloc, &ran, &mut source, &[], &[])
+fn without_memory(alloc: Global, source: MemSource) -> Result<String, Unable> {
+    let mut stage = Stage::new(alloc, words_of(alloc, "pipe")?, source)?;
+    let status = status_over(alloc, &mut stage, &mut Full, &NEW_STORE)?;
+    told(alloc, &mut stage, status, &[], &[])
 }

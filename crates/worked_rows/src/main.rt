@@ -10,7 +10,7 @@ mod showing;
 mod stores;
 
 use faults::Faults;
-use sessions::Sessions;
+use sessions::{Sessions, SessionsAt};
 use std::process::ExitCode;
 use std::rt::Files;
 use stores::Stores;
@@ -28,6 +28,9 @@ fn main(rt: HostRuntime) -> ExitCode {
 
 fn run(rt: &(impl Files + Print + AllocGlobal)) -> Result<(), Unable> {
     run_table(rt, "pipe", &Sessions)?;
+    run_table(rt, "tables", &Sessions)?;
+    run_table(rt, "refused_tables", &Sessions)?;
+    run_table(rt, "moments", &SessionsAt)?;
     run_table(rt, "faults", &Faults)?;
     run_table(rt, "stores", &Stores)
 }

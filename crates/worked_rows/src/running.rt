@@ -1,53 +1,105 @@
 //! One run of the top call, over memory.
 
+use crate::disks::disk_of;
 use cat_values::Bytes;
 use hms_outside::{Clock, MemClock, MemDisk, MemFolder, MemSink, MemSource, Sink, Source};
 use ms_cli::{LocalEnd, run_local};
 use std::alloc::{AllocError, Global};
 use table_cases::{Unable, bytes_of};
 
-/// What a run leaves beside its output.
+/// What a run meets beside its output and its disk A.
 #[derive(Drop)]
-pub struct Ran {
-    pub status: u8,
-    /// The clock's next moment.
-    pub moment: u64,
-    pub errors: MemSink,
-    pub disk: MemDisk,
+pub struct Stage {
+    words: Vec<String>,
+    source: MemSource,
+    errors: MemSink,
+    folder: MemFolder,
+    clock: MemClock,
 }
 
-/// Runs the top call with these words over this disk A. The clock's moments are 10, 20, 30 and 40.
-pub fn run<K: Sink>(
+impl Stage {
+    /// A stage with these words and this source. The clock's moments are 10, 20, 30 and 40.
+    pub fn new(alloc: Global, words: Vec<String>, source: MemSource) -> Result<Stage, AllocError> {
+        let moments = [10, 20, 30, 40].to_vec(alloc)?;
+        Ok(Stage::at(alloc, words, source, moments))
+    }
+
+    /// The same with these moments of the clock.
+    fn at(alloc: Global, words: Vec<String>, source: MemSource, moments: Vec<u64>) -> Stage {
+        Stage {
+            words,
+            source,
+            errors: MemSink::new(alloc, Vec::new(alloc)),
+            folder: MemFolder::new(alloc, Vec::new(alloc)),
+            clock: MemClock::new(moments),
+        }
+    }
+
+    /// Runs the top call over this disk A, and gives its status with the disks.
+    pub fn run<K: Sink>(
+        &mut self,
+        alloc: Global,
+        output: &mut K,
+        disk: MemDisk,
+    ) -> LocalEnd<MemDisk> {
+        run_local(
+            alloc,
+            &self.words,
+            &mut self.source,
+            output,
+            &mut self.errors,
+            disk,
+            MemDisk::new(alloc, Vec::new(alloc)),
+            &mut self.folder,
+            &mut self.clock,
+        )
+    }
+
+    /// What was written to the sink of errors.
+    pub fn errors(&self) -> &[u8] {
+        self.errors.bytes()
+    }
+
+    /// The clock's next moment.
+    pub fn moment(&mut self) -> u64 {
+        self.clock.now()
+    }
+
+    /// What is left of the source, up to 64 bytes; none where it fails.
+    pub fn left(&mut self, alloc: Global) -> Result<Vec<u8>, AllocError> {
+        let mut rest = [0; 64];
+        let count = self.source.read(&mut rest).unwrap_or(0);
+        rest[..count].to_vec(alloc)
+    }
+}
+
+/// A stage with the words of a text, and a source of the bytes that hexadecimal digits spell.
+pub fn stage_of(alloc: Global, words: &str, digits: &str) -> Result<Stage, Unable> {
+    let words = words_of(alloc, words)?;
+    Ok(Stage::new(alloc, words, source_of(alloc, digits)?)?)
+}
+
+/// The same where all moments of the clock are this one.
+pub fn stage_at(alloc: Global, words: &str, digits: &str, moment: u64) -> Result<Stage, Unable> {
+    let words = words_of(alloc, words)?;
+    let source = source_of(alloc, digits)?;
+    Ok(Stage::at(alloc, words, source, [moment].to_vec(alloc)?))
+}
+
+/// The status of a run over a disk A of these bytes.
+pub fn status_over<K: Sink>(
     alloc: Global,
-    words: &[String],
-    source: &mut MemSource,
+    stage: &mut Stage,
     output: &mut K,
-    disk: MemDisk,
-) -> Result<Ran, AllocError> {
-    let mut errors = MemSink::new(alloc, Vec::new(alloc));
-    let mut folder = MemFolder::new(alloc, Vec::new(alloc));
-    let mut clock = MemClock::new([10, 20, 30, 40].to_vec(alloc)?);
-    let LocalEnd {
-        status,
-        disk_a,
-        disk_b: _,
-    } = run_local(
-        alloc,
-        words,
-        source,
-        output,
-        &mut errors,
-        disk,
-        MemDisk::new(alloc, Vec::new(alloc)),
-        &mut folder,
-        &mut clock,
-    );
-    Ok(Ran {
-        status,
-        moment: clock.now(),
-        errors,
-        disk: disk_a,
-    })
+    bytes: &[u8],
+) -> Result<u8, Unable> {
+    let disk = disk_of(alloc, bytes, &[])?;
+    Ok(stage.run(alloc, output, disk).status)
+}
+
+/// A source of the bytes that hexadecimal digits spell.
+pub fn source_of(alloc: Global, digits: &str) -> Result<MemSource, Unable> {
+    Ok(MemSource::new(input_of(alloc, digits)?, Vec::new(alloc)))
 }
 
 /// The words of a text.
@@ -68,11 +120,4 @@ pub fn input_of(alloc: Global, digits: &str) -> Result<Bytes, Unable> {
     }
     let bytes = bytes_of(alloc, digits)?;
     Ok(Bytes::from_slice(alloc, &bytes)?)
-}
-
-/// What is left of a source, up to 64 bytes; none where it fails.
-pub fn left(alloc: Global, source: &mut MemSource) -> Result<Vec<u8>, AllocError> {
-    let mut rest = [0; 64];
-    let count = source.read(&mut rest).unwrap_or(0);
-    rest[..count].to_vec(alloc)
 }

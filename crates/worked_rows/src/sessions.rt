@@ -1,9 +1,9 @@
 //! Sessions by their bytes: the status, the replies and the line of errors.
 
-use crate::disks::new_store;
-use crate::running::{Ran, input_of, run, words_of};
+use crate::disks::NEW_STORE;
+use crate::running::{stage_at, stage_of, status_over};
 use crate::showing::{line, shown};
-use hms_outside::{MemSink, MemSource};
+use hms_outside::MemSink;
 use std::alloc::Global;
 use table_cases::{Answers, Unable};
 
@@ -12,18 +12,31 @@ pub struct Sessions;
 
 impl Answers for Sessions {
     fn answer(&self, alloc: Global, input: &str) -> Result<String, Unable> {
-        let bytes = input_of(alloc, input)?;
-        let words = words_of(alloc, "pipe")?;
-        let mut source = MemSource::new(bytes, Vec::new(alloc));
+        let mut stage = stage_of(alloc, "pipe", input)?;
         let mut output = MemSink::new(alloc, Vec::new(alloc));
-        let ran = run(alloc, &words, &mut source, &mut output, new_store(alloc)?)?;
-        told(alloc, &ran, output.bytes())
+        let status = status_over(alloc, &mut stage, &mut output, &NEW_STORE)?;
+        told(alloc, status, output.bytes(), stage.errors())
     }
 }
 
-// What a run leaves that wrote these bytes.
-fn told(alloc: Global, ran: &Ran, bytes: &[u8]) -> Result<String, Unable> {
+/// An input is `MOMENT | BYTES`: the bytes of a session whose calls all come at this moment. Its outcome is
+/// as that of `Sessions`.
+pub struct SessionsAt;
+
+impl Answers for SessionsAt {
+    fn answer(&self, alloc: Global, input: &str) -> Result<String, Unable> {
+        let (moment, digits) = input.split_once(" | ").ok_or(Unable::Form)?;
+        let moment = moment.parse::<u64>().or(Err(Unable::Form))?;
+        let mut stage = stage_at(alloc, "pipe", digits, moment)?;
+        let mut output = MemSink::new(alloc, Vec::new(alloc));
+        let status = status_over(alloc, &mut stage, &mut output, &NEW_STORE)?;
+        told(alloc, status, output.bytes(), stage.errors())
+    }
+}
+
+// What a run leaves that wrote these bytes, and these of errors.
+fn told(alloc: Global, status: u8, bytes: &[u8], errors: &[u8]) -> Result<String, Unable> {
     let replies = shown(alloc, bytes)?;
-    let line = line(ran.errors.bytes())?;
-    Ok(format!(in alloc; "{} {replies} {line}", ran.status)?)
+    let line = line(errors)?;
+    Ok(format!(in alloc; "{status} {replies} {line}")?)
 }
