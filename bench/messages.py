@@ -18,6 +18,53 @@ def create(name):
     return message(b"create_database", b"\x0c\0\1\x0b\0\1" + text(name) + b"\0")
 
 
+def field(kind, number, value):
+    return struct.pack(">bh", kind, number) + value
+
+
+def structs(values):
+    return b"\x0c" + struct.pack(">i", len(values)) + b"".join(values)
+
+
+def texts(pairs):
+    """A map from texts to texts."""
+    return b"\x0b\x0b" + struct.pack(">i", len(pairs)) + b"".join(text(key) + text(value) for key, value in pairs)
+
+
+def column(name, kind, comment=None):
+    told = b"" if comment is None else field(11, 3, text(comment))
+    return field(11, 1, text(name)) + field(11, 2, text(kind)) + told + b"\0"
+
+
+KINDS = [b"bigint", b"string", b"decimal(18,2)", b"timestamp", b"array<struct<k:string,v:int>>"]
+
+
+def storage(columns, location):
+    parquet = b"org.apache.hadoop.hive.ql.io.parquet."
+    serde = field(11, 2, text(parquet + b"serde.ParquetHiveSerDe")) + field(13, 3, texts([(b"serialization.format", b"1")])) + b"\0"
+    comments = [b"what column %d holds" % i if i % 3 == 0 else None for i in range(columns)]
+    listed = structs([column(b"column_%d" % i, KINDS[i % 5], comments[i]) for i in range(columns)])
+    formats = field(11, 3, text(parquet + b"MapredParquetInputFormat")) + field(11, 4, text(parquet + b"MapredParquetOutputFormat"))
+    return field(15, 1, listed) + field(11, 2, text(location)) + formats + field(8, 6, struct.pack(">i", -1)) + field(12, 7, serde) + b"\0"
+
+
+def table(db, name, columns):
+    """A Table as query engines make one, with so many columns and two keys."""
+    keys = structs([column(b"ds", b"string"), column(b"n", b"int")])
+    params = texts([(b"EXTERNAL", b"TRUE"), (b"spark.sql.create.version", b"3.5.1"), (b"spark.sql.sources.provider", b"parquet")])
+    named = field(11, 1, text(name)) + field(11, 2, text(db)) + field(11, 3, text(b"ana"))
+    place = field(12, 7, storage(columns, b"hdfs://nn/warehouse/" + db + b".db/" + name))
+    return named + place + field(15, 8, keys) + field(13, 9, params) + field(11, 12, text(b"EXTERNAL_TABLE")) + b"\0"
+
+
+def create_table(db, name, columns):
+    return message(b"create_table", field(12, 1, table(db, name, columns)))
+
+
+def get_table(db, name):
+    return message(b"get_table", field(11, 1, text(db)) + field(11, 2, text(name)))
+
+
 LISTING = message(b"get_all_databases")
 MADE = bytes.fromhex("80010002") + message(b"create_database")[4:]  # the reply to the creation of a database
 

@@ -9,8 +9,8 @@ import subprocess
 import tempfile
 from contextlib import contextmanager
 
-from metastore import Metastore
-from metastore.ttypes import Database
+from hive_metastore import ThriftHiveMetastore
+from hive_metastore.ttypes import Database
 from thrift.protocol.TBinaryProtocol import TBinaryProtocol
 from thrift.transport.TSocket import TSocket
 from thrift.transport.TTransport import TBufferedTransport
@@ -24,7 +24,7 @@ def client(store):
     program = subprocess.Popen([METASTORE, store, "dumps", "pipe"], stdin=theirs, stdout=theirs)
     connection = TSocket()
     connection.setHandle(ours)
-    client = Metastore.Client(TBinaryProtocol(TBufferedTransport(connection)))
+    client = ThriftHiveMetastore.Client(TBinaryProtocol(TBufferedTransport(connection)))
     yield client
     client.shutdown()
     program.wait()

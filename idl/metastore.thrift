@@ -1,10 +1,13 @@
 /*
  * The calls of the metastore that are built, with their structs. Clients in any language are
  * generated from this file, as by `thrift --gen py idl/metastore.thrift`; they speak Thrift's
- * binary protocol without frames. docs/CALLS.md says what each call does.
+ * binary protocol without frames. The service, its calls and its structs have the names that they
+ * have in Apache Hive's own file, so that clients look as their users know them. docs/CALLS.md says
+ * what each call does.
  */
-namespace py metastore
-namespace java metastore
+namespace py hive_metastore
+namespace java org.apache.hadoop.hive.metastore.api
+namespace cpp Apache.Hadoop.Hive
 
 /** A database. Fields that aren't listed here are skipped. */
 struct Database {
@@ -13,6 +16,79 @@ struct Database {
   3: optional string locationUri,
   4: optional map<string, string> parameters,
   6: optional string ownerName
+}
+
+/** A column, or a key by which a table is partitioned. An absent name or type counts as empty. */
+struct FieldSchema {
+  1: string name,
+  2: string type,
+  3: optional string comment
+}
+
+/** How the rows of a table are read and written. */
+struct SerDeInfo {
+  1: optional string name,
+  2: optional string serializationLib,
+  3: map<string, string> parameters
+}
+
+/** A column by which rows are sorted, and the direction. */
+struct Order {
+  1: string col,
+  2: i32 order
+}
+
+/** Values that so many rows have that they lie in places of their own. */
+struct SkewedInfo {
+  1: list<string> skewedColNames,
+  2: list<list<string>> skewedColValues,
+  3: map<list<string> (python.immutable = ""), string> skewedColValueLocationMaps
+}
+
+/** How the rows of a table are stored. Lists and maps that are absent count as empty. */
+struct StorageDescriptor {
+  1: list<FieldSchema> cols,
+  2: optional string location,
+  3: optional string inputFormat,
+  4: optional string outputFormat,
+  5: bool compressed,
+  6: i32 numBuckets,
+  7: optional SerDeInfo serdeInfo,
+  8: list<string> bucketCols,
+  9: list<Order> sortCols,
+  10: map<string, string> parameters,
+  11: optional SkewedInfo skewedInfo,
+  12: optional bool storedAsSubDirectories
+}
+
+/** A table. Fields that aren't listed here are skipped. */
+struct Table {
+  1: optional string tableName,
+  2: optional string dbName,
+  3: optional string owner,
+  4: i32 createTime,
+  5: i32 lastAccessTime,
+  6: i32 retention,
+  7: optional StorageDescriptor sd,
+  8: list<FieldSchema> partitionKeys,
+  9: map<string, string> parameters,
+  10: optional string viewOriginalText,
+  11: optional string viewExpandedText,
+  12: optional string tableType
+}
+
+/** Read, and not used. */
+struct EnvironmentContext {
+  1: map<string, string> properties
+}
+
+struct GetTableRequest {
+  1: optional string dbName,
+  2: optional string tblName
+}
+
+struct GetTableResult {
+  1: Table table
 }
 
 /** No functions are kept. */
@@ -56,11 +132,15 @@ exception InvalidObjectException {
   1: string message
 }
 
+exception InvalidOperationException {
+  1: string message
+}
+
 exception MetaException {
   1: string message
 }
 
-service Metastore {
+service ThriftHiveMetastore {
   string getName(),
 
   /** 2: the server is alive. */
@@ -81,7 +161,64 @@ service Metastore {
   Database get_database(1: string name)
     throws (1: NoSuchObjectException o1, 2: MetaException o2),
 
+  /** No files are touched; with `cascade` the tables go too. */
+  void drop_database(1: string name, 2: bool deleteData, 3: bool cascade)
+    throws (1: NoSuchObjectException o1, 2: InvalidOperationException o2, 3: MetaException o3),
+
+  /** The names that fit a pattern: `|` parts alternatives, `*` is any run of characters, `.` is any one. */
+  list<string> get_databases(1: string pattern)
+    throws (1: MetaException o1),
+
   list<string> get_all_databases()
+    throws (1: MetaException o1),
+
+  void alter_database(1: string dbname, 2: Database db)
+    throws (1: MetaException o1, 2: NoSuchObjectException o2),
+
+  void create_table(1: Table tbl)
+    throws (1: AlreadyExistsException o1, 2: InvalidObjectException o2, 3: MetaException o3, 4: NoSuchObjectException o4),
+
+  void create_table_with_environment_context(1: Table tbl, 2: EnvironmentContext environment_context)
+    throws (1: AlreadyExistsException o1, 2: InvalidObjectException o2, 3: MetaException o3, 4: NoSuchObjectException o4),
+
+  /** No files are touched. */
+  void drop_table(1: string dbname, 2: string name, 3: bool deleteData)
+    throws (1: NoSuchObjectException o1, 2: MetaException o2),
+
+  void drop_table_with_environment_context(1: string dbname, 2: string name, 3: bool deleteData,
+      4: EnvironmentContext environment_context)
+    throws (1: NoSuchObjectException o1, 2: MetaException o2),
+
+  /** The names that fit a pattern; none where there is no such database. */
+  list<string> get_tables(1: string db_name, 2: string pattern)
+    throws (1: MetaException o1),
+
+  list<string> get_all_tables(1: string db_name)
+    throws (1: MetaException o1),
+
+  Table get_table(1: string dbname, 2: string tbl_name)
+    throws (1: MetaException o1, 2: NoSuchObjectException o2),
+
+  GetTableResult get_table_req(1: GetTableRequest req)
+    throws (1: MetaException o1, 2: NoSuchObjectException o2),
+
+  /** Those that there are, in the order of first asking. */
+  list<Table> get_table_objects_by_name(1: string dbname, 2: list<string> tbl_names)
+    throws (1: MetaException o1),
+
+  void alter_table(1: string dbname, 2: string tbl_name, 3: Table new_tbl)
+    throws (1: InvalidOperationException o1, 2: MetaException o2),
+
+  void alter_table_with_environment_context(1: string dbname, 2: string tbl_name, 3: Table new_tbl,
+      4: EnvironmentContext environment_context)
+    throws (1: InvalidOperationException o1, 2: MetaException o2),
+
+  /** The columns of a table. */
+  list<FieldSchema> get_fields(1: string db_name, 2: string table_name)
+    throws (1: MetaException o1),
+
+  /** The columns of a table, and behind them its keys. */
+  list<FieldSchema> get_schema(1: string db_name, 2: string table_name)
     throws (1: MetaException o1),
 
   NotificationEventResponse get_next_notification(1: NotificationEventRequest rqst)
