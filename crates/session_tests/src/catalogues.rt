@@ -1,12 +1,11 @@
-//! What no session shows of a catalogue: a live replica's position, a change that is taken back, and
-//! the refusals that no call gives yet.
+//! What no session shows of a catalogue: a live replica's position, and the refusals that no call gives
+//! yet.
 
 ghost use Rattle.std.specs.Prelude.{◌≡◌, None};
 ghost use Rattle.catalogue.specs.Polls.{poll_of};
 
-use crate::stores::create;
 use cat_types::{Call, ListOf, Params, Reply, Text};
-use catalogue::{Bars, Cat, Decided, Placed, Refusal, ReplicaAt, decide};
+use catalogue::{Bars, Cat, Decided, Refusal, ReplicaAt, decide};
 use std::alloc::Global;
 use std::test::Fail;
 
@@ -59,35 +58,6 @@ fn decided(alloc: Global, cat: &Cat, bars: &Bars, call: Call) -> Decided
 fn a_live_replica_shows_its_position(rt: HostRuntime) -> Result<(), Fail> {
     let shown = shown(rt.alloc())?;
     assert!(rt; is_placed(&shown, "9"));
-    Ok(())
-}
-
-// Places what a call changes, if it changes anything.
-fn place(alloc: Global, cat: &mut Cat, call: &Call) -> Option<Placed>
-    requires { poll_of call.now ≡ None }
-{
-    match decide(alloc, cat, &no_bars(alloc), call, 5, 1) {
-        Decided::Change(change, _) => cat.place(&change).ok(),
-        _ => None,
-    }
-}
-
-// How many databases there are with `b` placed, and how many when that is taken back.
-fn counts(alloc: Global, cat: &mut Cat, call: &Call) -> Option<(u64, u64)>
-    requires { poll_of call.now ≡ None }
-{
-    let placed = place(alloc, cat, call)?;
-    let with = cat.db_count();
-    cat.take_back(placed);
-    Some((with, cat.db_count()))
-}
-
-#[test]
-fn a_placed_change_is_taken_back(rt: HostRuntime) -> Result<(), Fail> {
-    let alloc = rt.alloc();
-    let call = create(alloc, "b")?;
-    let mut cat = Cat::new(alloc)?;
-    assert_eq!(rt; counts(alloc, &mut cat, &call), Some((2, 1)));
     Ok(())
 }
 
