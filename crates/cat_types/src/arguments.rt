@@ -1,6 +1,6 @@
 //! What callers hand in.
 
-use cat_values::{CopyParts, DbRec, NoMemory, TableRec, Text, TryCopy};
+use cat_values::{CopyParts, DbRec, ListOf, NoMemory, PartRec, TableRec, Text, Texts, TryCopy};
 use std::alloc::Global;
 
 /// A database as a caller hands it in. An absent name names nothing.
@@ -36,6 +36,32 @@ impl TryCopy for TableArg {
                 table,
                 db,
                 has_sd: self.has_sd,
+                rec,
+            }),
+            Err(NoMemory) => Err(NoMemory),
+        }
+    }
+}
+
+/// A partition as a caller hands it in. An absent name names nothing.
+#[derive(Drop)]
+pub struct PartArg {
+    pub db: Option<Text>,
+    pub table: Option<Text>,
+    pub values: Texts,
+    pub rec: PartRec,
+}
+
+/// A list of partitions as a caller hands them in.
+pub type PartArgs = ListOf<PartArg>;
+
+impl TryCopy for PartArg {
+    fn copy(&self, alloc: Global) -> Result<PartArg, NoMemory> {
+        match (&self.db, &self.table, &self.values, &self.rec).copy_parts(alloc) {
+            Ok((db, table, values, rec)) => Ok(PartArg {
+                db,
+                table,
+                values,
                 rec,
             }),
             Err(NoMemory) => Err(NoMemory),

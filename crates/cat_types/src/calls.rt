@@ -2,7 +2,15 @@
 
 ghost use Rattle.std.specs.Prelude.{◌≡◌, IfOk};
 
-use crate::{DbArg, TableArg};
+use crate::part_calls::{
+    copy_add_partition, copy_add_partitions, copy_add_partitions_req, copy_alter_partition,
+    copy_alter_partitions, copy_append_partition, copy_append_partition_by_name,
+    copy_drop_partition, copy_drop_partition_by_name, copy_get_partition,
+    copy_get_partition_by_name, copy_get_partition_names, copy_get_partition_names_ps,
+    copy_get_partitions, copy_get_partitions_by_names, copy_get_partitions_ps,
+    copy_rename_partition,
+};
+use crate::{DbArg, PartArg, PartArgs, TableArg};
 use cat_values::{CopyParts, NoMemory, Text, Texts, TryCopy};
 use std::alloc::Global;
 
@@ -82,6 +90,111 @@ pub enum Call {
         db: Text,
         table: Text,
     },
+    /// Adds a partition.
+    AddPartition {
+        part: PartArg,
+    },
+    /// Adds partitions, all to the table that the first of them names.
+    AddPartitions {
+        parts: PartArgs,
+    },
+    /// Adds partitions by a request; with `if_not_exists` those that are there are passed over, and with
+    /// `need_result` those that were added are told.
+    AddPartitionsReq {
+        db: Option<Text>,
+        table: Option<Text>,
+        parts: PartArgs,
+        if_not_exists: bool,
+        need_result: bool,
+    },
+    /// Adds a partition with these values, stored as its table is.
+    AppendPartition {
+        db: Text,
+        table: Text,
+        values: Texts,
+    },
+    /// The same by the partition's name.
+    AppendPartitionByName {
+        db: Text,
+        table: Text,
+        name: Text,
+    },
+    /// Drops the partition with these values.
+    DropPartition {
+        db: Text,
+        table: Text,
+        values: Texts,
+    },
+    /// The same by the partition's name.
+    DropPartitionByName {
+        db: Text,
+        table: Text,
+        name: Text,
+    },
+    /// The partition with these values.
+    GetPartition {
+        db: Text,
+        table: Text,
+        values: Texts,
+    },
+    /// The same by the partition's name.
+    GetPartitionByName {
+        db: Text,
+        table: Text,
+        name: Text,
+    },
+    /// The first `max` partitions of a table; all where `max` is negative.
+    GetPartitions {
+        db: Text,
+        table: Text,
+        max: i16,
+    },
+    /// The names of the same.
+    GetPartitionNames {
+        db: Text,
+        table: Text,
+        max: i16,
+    },
+    /// The first `max` partitions whose values begin so, where an empty text stands for any value; all
+    /// of them where `max` is negative.
+    GetPartitionsPs {
+        db: Text,
+        table: Text,
+        values: Texts,
+        max: i16,
+    },
+    /// The names of the same.
+    GetPartitionNamesPs {
+        db: Text,
+        table: Text,
+        values: Texts,
+        max: i16,
+    },
+    /// Those of the named partitions that there are, each once.
+    GetPartitionsByNames {
+        db: Text,
+        table: Text,
+        names: Texts,
+    },
+    /// Gives a partition this record.
+    AlterPartition {
+        db: Text,
+        table: Text,
+        part: PartArg,
+    },
+    /// Gives partitions these records.
+    AlterPartitions {
+        db: Text,
+        table: Text,
+        parts: PartArgs,
+    },
+    /// Gives the partition with these values this record, and other values with it.
+    RenamePartition {
+        db: Text,
+        table: Text,
+        values: Texts,
+        part: PartArg,
+    },
     /// The kept events above the number `last`, `max` of them at most; all where `max` is absent, 0
     /// or negative.
     GetNextNotification {
@@ -116,6 +229,64 @@ impl TryCopy for Call {
             Call::AlterTable { db, table, new } => copy_alter_table(db, table, new, alloc),
             Call::GetFields { db, table } => copy_get_fields(db, table, alloc),
             Call::GetSchema { db, table } => copy_get_schema(db, table, alloc),
+            Call::AddPartition { part } => copy_add_partition(part, alloc),
+            Call::AddPartitions { parts } => copy_add_partitions(parts, alloc),
+            Call::AddPartitionsReq {
+                db,
+                table,
+                parts,
+                if_not_exists,
+                need_result,
+            } => copy_add_partitions_req(db, table, parts, *if_not_exists, *need_result, alloc),
+            Call::AppendPartition { db, table, values } => copy_append_partition(
+                db, table, values, alloc,
+            ),
+            Call::AppendPartitionByName { db, table, name } => copy_append_partition_by_name(
+                db, table, name, alloc,
+            ),
+            Call::DropPartition { db, table, values } => copy_drop_partition(
+                db, table, values, alloc,
+            ),
+            Call::DropPartitionByName { db, table, name } => copy_drop_partition_by_name(
+                db, table, name, alloc,
+            ),
+            Call::GetPartition { db, table, values } => copy_get_partition(
+                db, table, values, alloc,
+            ),
+            Call::GetPartitionByName { db, table, name } => copy_get_partition_by_name(
+                db, table, name, alloc,
+            ),
+            Call::GetPartitions { db, table, max } => copy_get_partitions(db, table, *max, alloc),
+            Call::GetPartitionNames { db, table, max } => copy_get_partition_names(
+                db, table, *max, alloc,
+            ),
+            Call::GetPartitionsPs {
+                db,
+                table,
+                values,
+                max,
+            } => copy_get_partitions_ps(db, table, values, *max, alloc),
+            Call::GetPartitionNamesPs {
+                db,
+                table,
+                values,
+                max,
+            } => copy_get_partition_names_ps(db, table, values, *max, alloc),
+            Call::GetPartitionsByNames { db, table, names } => copy_get_partitions_by_names(
+                db, table, names, alloc,
+            ),
+            Call::AlterPartition { db, table, part } => copy_alter_partition(
+                db, table, part, alloc,
+            ),
+            Call::AlterPartitions { db, table, parts } => copy_alter_partitions(
+                db, table, parts, alloc,
+            ),
+            Call::RenamePartition {
+                db,
+                table,
+                values,
+                part,
+            } => copy_rename_partition(db, table, values, part, alloc),
         }
     }
 }

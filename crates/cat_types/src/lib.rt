@@ -7,11 +7,12 @@ mod calls;
 mod changes;
 mod items;
 mod named;
+mod part_calls;
 mod replicas;
 mod replies;
 mod steps;
 
-pub use arguments::{DbArg, TableArg};
+pub use arguments::{DbArg, PartArg, PartArgs, TableArg};
 pub use calls::Call;
 pub use cat_values::{
     Bytes, Column, Columns, CopyParts, DbRec, LIST_END, ListOf, LowerName, MAP_END, MapOf,
@@ -20,7 +21,7 @@ pub use cat_values::{
 };
 pub use changes::{Change, Event, EventKind, Events, Op, Ops};
 pub use items::{Item, Items};
-pub use named::{NamedTable, Tables};
+pub use named::{NamedPart, NamedTable, Parts, Tables};
 pub use replicas::{Marked, MarkedOps, Phase, ReplicaRow};
 pub use replies::Reply;
 pub use steps::{Answer, Step};

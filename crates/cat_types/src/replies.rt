@@ -1,7 +1,7 @@
 //! What the catalogue replies.
 
-use crate::{Events, Tables};
-use cat_values::{Columns, CopyParts, DbRec, NoMemory, Text, Texts, TryCopy};
+use crate::{Events, Parts, Tables};
+use cat_values::{Columns, CopyParts, DbRec, NoMemory, Params, Text, Texts, TryCopy};
 use std::alloc::Global;
 
 /// The result of a call, or its refusal.
@@ -9,18 +9,24 @@ use std::alloc::Global;
 pub enum Reply {
     /// The call was done, and has no result.
     Nothing,
+    /// Yes or no.
+    Flag(bool),
     /// A number of four bytes.
     Number(i32),
     /// A number of eight bytes.
     Big(i64),
     /// Names, in byte order.
     Names(Texts),
+    /// The values of a partition by its keys.
+    Spec(Params),
     /// Columns, in their order.
     Fields(Columns),
     /// A database: its name and what is kept of it.
     Db(Text, DbRec),
     /// Tables; a result that is one table is a list with that one.
     Tables(Tables),
+    /// Partitions; a result that is one partition is a list with that one.
+    Parts(Parts),
     /// Events, in the order of their numbers.
     Events(Events),
     /// The call was refused: the number of the refusal, and its text.
@@ -31,10 +37,15 @@ impl TryCopy for Reply {
     fn copy(&self, alloc: Global) -> Result<Reply, NoMemory> {
         match self {
             Reply::Nothing => Ok(Reply::Nothing),
+            Reply::Flag(flag) => Ok(Reply::Flag(*flag)),
             Reply::Number(number) => Ok(Reply::Number(*number)),
             Reply::Big(number) => Ok(Reply::Big(*number)),
             Reply::Names(names) => match names.copy(alloc) {
                 Ok(names) => Ok(Reply::Names(names)),
+                Err(NoMemory) => Err(NoMemory),
+            },
+            Reply::Spec(spec) => match spec.copy(alloc) {
+                Ok(spec) => Ok(Reply::Spec(spec)),
                 Err(NoMemory) => Err(NoMemory),
             },
             Reply::Fields(columns) => match columns.copy(alloc) {
@@ -43,6 +54,10 @@ impl TryCopy for Reply {
             },
             Reply::Tables(tables) => match tables.copy(alloc) {
                 Ok(tables) => Ok(Reply::Tables(tables)),
+                Err(NoMemory) => Err(NoMemory),
+            },
+            Reply::Parts(parts) => match parts.copy(alloc) {
+                Ok(parts) => Ok(Reply::Parts(parts)),
                 Err(NoMemory) => Err(NoMemory),
             },
             Reply::Db(name, rec) => match (name, rec).copy_parts(alloc) {

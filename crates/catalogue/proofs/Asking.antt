@@ -9,9 +9,9 @@ use Rattle.std.specs.Str.{bytes_eq}
 use Rattle.std.specs.declared.cmp.Ordering.{Ordering}
 use Rattle.std.specs.declared.cmp.Ordering.TheVariants.{Less, Equal, Greater}
 use Rattle.cat_types.specs.declared.named.NamedTable.{NamedTable}
-use Rattle.catalogue.specs.Catalogue.{Catalogue, table}
+use Rattle.cat_objects.specs.Catalogue.{Catalogue, table}
 use Rattle.catalogue.specs.Tables.{first_asked, table_then, tables_there}
-use Rattle.catalogue.specs.declared.held.HeldTable.{HeldTable}
+use Rattle.cat_objects.specs.declared.held.HeldTable.{HeldTable}
 
 -- the same names stand in both lists
 abbrev pub SameNames : List (List ℕ) → List (List ℕ) → Type 0

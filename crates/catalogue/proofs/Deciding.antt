@@ -12,8 +12,8 @@ use Rattle.cat_types.specs.declared.changes.Op.TheVariants.{DropDb, PutDb}
 use Rattle.cat_types.specs.declared.replies.Reply.{Reply}
 use Rattle.cat_types.specs.declared.replies.Reply.TheVariants.{Nothing}
 use Rattle.cat_values.specs.Names.{is_object_name, lower}
-use Rattle.catalogue.specs.Catalogue.{Catalogue, database, has_database, table}
-use Rattle.catalogue.specs.Changes.{are_some, has_operation, takes_call}
+use Rattle.cat_objects.specs.Catalogue.{Catalogue, database, has_database, table}
+use Rattle.cat_objects.specs.Changes.{are_some, has_operation, takes_call}
 use Rattle.catalogue.specs.Databases.{Rule, alter_database_rules, born_of, create_database_rules, database_altered, database_created, database_dropped, drop_database_rules, is_named, kept_name, kept_record}
 use Rattle.catalogue.specs.Decisions.{Decides, IfChange, decided_by, told}
 use Rattle.catalogue.specs.Rules.{breaks, decision, first_broken, first_refusal, lacks_number, result_of}
@@ -21,7 +21,7 @@ use Rattle.catalogue.specs.Tables.{alter_table_rules, create_table_rules, drop_t
 use Rattle.catalogue.specs.declared.bars.Bars.{Bars}
 use Rattle.catalogue.specs.declared.decided.Decided.{Decided}
 use Rattle.catalogue.specs.declared.decided.Decided.TheVariants as decided
-use Rattle.catalogue.specs.declared.held.HeldTable.{HeldTable}
+use Rattle.cat_objects.specs.declared.held.HeldTable.{HeldTable}
 use Rattle.catalogue.specs.declared.refusal.Refusal.{Refusal}
 use Rattle.catalogue.proofs.DecidingTables.{alter_table_taken, create_table_taken, drop_table_taken}
 use Rattle.catalogue.proofs.Rules.{both, born_there, call_taken, fits_there, has_number, kept_named, unbroken}

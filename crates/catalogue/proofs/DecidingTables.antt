@@ -12,16 +12,16 @@ use Rattle.cat_types.specs.declared.replies.Reply.TheVariants.{Nothing}
 use Rattle.cat_values.specs.declared.records.TableRec.{TableRec}
 use Rattle.cat_values.specs.declared.storage.Column.{Column}
 use Rattle.cat_values.specs.Names.{is_object_name}
-use Rattle.catalogue.specs.Catalogue.{Catalogue, at_name, database, has_database, has_table, table, tables_of}
-use Rattle.catalogue.specs.Changes.{fits_op, fits_over, is_lawful_table, is_table_born, takes_call}
+use Rattle.cat_objects.specs.Catalogue.{Catalogue, at_name, database, has_database, has_table, table, tables_of}
+use Rattle.cat_objects.specs.Changes.{fits_op, fits_over, is_lawful_table, is_table_born, takes_call}
 use Rattle.catalogue.specs.Databases.{born_of, is_named, is_replica, kept_name, names_another}
 use Rattle.catalogue.specs.Decisions.{decided_by, told}
 use Rattle.catalogue.specs.Rules.{first_broken}
 use Rattle.catalogue.specs.Tables.{alter_table_rules, changes_keys, create_table_rules, drop_table_rules, fits_columns, is_dumping, names_database, renames, table_altered, table_born, table_created, table_dropped, table_put}
 use Rattle.catalogue.specs.declared.bars.Bars.{Bars}
 use Rattle.catalogue.specs.declared.decided.Decided.TheVariants as decided
-use Rattle.catalogue.specs.declared.held.HeldDb.{HeldDb}
-use Rattle.catalogue.specs.declared.held.HeldTable.{HeldTable}
+use Rattle.cat_objects.specs.declared.held.HeldDb.{HeldDb}
+use Rattle.cat_objects.specs.declared.held.HeldTable.{HeldTable}
 use Rattle.catalogue.specs.declared.refusal.Refusal.{Refusal}
 use Rattle.catalogue.specs.declared.refusal.Refusal.TheVariants.{InvalidOperation, IsReplica}
 use Rattle.kept_records.specs.Tables.{altered_table, have_same_keys, lower_columns, made_table}

@@ -1,8 +1,4 @@
 pub mod Rules
-pub mod Maps
-pub mod Editing
-pub mod PlacedBack
-pub mod Taking
 pub mod Asking
 pub mod Numbering
 pub mod DecidingTables

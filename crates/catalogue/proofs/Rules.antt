@@ -8,11 +8,11 @@ use Rattle.cat_types.specs.declared.changes.Change.{Change}
 use Rattle.cat_types.specs.declared.changes.EventKind.{EventKind}
 use Rattle.cat_types.specs.declared.changes.Op.{Op}
 use Rattle.cat_values.specs.Names.{has_name_length, is_name_byte, is_object_name, lower}
-use Rattle.catalogue.specs.Catalogue.{Catalogue, database, has_database}
-use Rattle.catalogue.specs.Changes.{fits_database, fits_kind, fits_op, has_operation, is_born, takes_call, takes_change}
+use Rattle.cat_objects.specs.Catalogue.{Catalogue, database, has_database}
+use Rattle.cat_objects.specs.Changes.{fits_database, fits_kind, fits_op, has_operation, is_born, takes_call, takes_change}
 use Rattle.catalogue.specs.Databases.{Rule, born_of, is_named, kept_name}
 use Rattle.catalogue.specs.Rules.{first_broken, lacks_number}
-use Rattle.catalogue.specs.declared.held.HeldDb.{HeldDb}
+use Rattle.cat_objects.specs.declared.held.HeldDb.{HeldDb}
 use Rattle.catalogue.specs.declared.refusal.Refusal.{Refusal}
 use Rattle.catalogue.specs.declared.refusal.Refusal.TheVariants.{EventNumbersUsedUp}
 

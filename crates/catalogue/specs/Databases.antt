@@ -15,10 +15,10 @@ use Rattle.cat_types.specs.declared.changes.Op.TheVariants.{DropDb, PutDb}
 use Rattle.cat_types.specs.declared.replies.Reply.{Reply}
 use Rattle.cat_types.specs.declared.replies.Reply.TheVariants.{Db, Nothing}
 use Rattle.cat_values.specs.declared.records.DbRec.{DbRec}
-use Rattle.catalogue.specs.Catalogue.{Catalogue, database, has_database, is_name, tables_of}
+use Rattle.cat_objects.specs.Catalogue.{Catalogue, database, has_database, is_name, tables_of}
 use Rattle.catalogue.specs.declared.bars.Bars.{Bars}
 use Rattle.catalogue.specs.declared.bars.ReplicaAt.{ReplicaAt}
-use Rattle.catalogue.specs.declared.held.HeldDb.{HeldDb}
+use Rattle.cat_objects.specs.declared.held.HeldDb.{HeldDb}
 use Rattle.catalogue.specs.declared.refusal.Refusal.{Refusal}
 use Rattle.catalogue.specs.declared.refusal.Refusal.TheVariants.{AlreadyExists, InvalidObject, InvalidOperation, InvalidRequest, IsReplica, NoSuchObject}
 

@@ -1,9 +1,6 @@
-pub mod Catalogue
 pub mod Databases
 pub mod Tables
 pub mod Rules
-pub mod Changes
 pub mod Refusals
 pub mod Decisions
 pub mod Polls
-pub mod Placing

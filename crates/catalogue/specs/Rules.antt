@@ -7,8 +7,8 @@ use Rattle.cat_types.specs.declared.calls.Call.TheVariants.{AlterDatabase, Alter
 use Rattle.cat_types.specs.declared.changes.Change.{Change}
 use Rattle.cat_types.specs.declared.replies.Reply.{Reply}
 use Rattle.cat_types.specs.declared.replies.Reply.TheVariants.{Names, Nothing, Tables}
-use Rattle.catalogue.specs.Catalogue.{Catalogue, database, table}
-use Rattle.catalogue.specs.Changes.{has_operation}
+use Rattle.cat_objects.specs.Catalogue.{Catalogue, database, table}
+use Rattle.cat_objects.specs.Changes.{has_operation}
 use Rattle.catalogue.specs.Databases.{Rule, alter_database_rules, create_database_rules, database_altered, database_created, database_dropped, drop_database_rules, get_database_rules, matching, shown_as}
 use Rattle.catalogue.specs.Decisions.{Decision, decided_by}
 use Rattle.catalogue.specs.Tables.{alter_table_rules, columns_as, create_table_rules, drop_table_rules, get_columns_rules, get_table_req_rules, get_table_rules, schema_as, table_altered, table_as, table_created, table_dropped, table_names, tables_named}

@@ -14,10 +14,10 @@ use Rattle.cat_types.specs.declared.changes.Op.TheVariants.{DropTable, MoveTable
 use Rattle.cat_types.specs.declared.named.NamedTable.{NamedTable}
 use Rattle.cat_types.specs.declared.replies.Reply.{Reply}
 use Rattle.cat_types.specs.declared.replies.Reply.TheVariants.{Fields, Names, Nothing, Tables}
-use Rattle.catalogue.specs.Catalogue.{Catalogue, database, has_database, has_table, table, tables_of}
+use Rattle.cat_objects.specs.Catalogue.{Catalogue, database, has_database, has_table, table, tables_of}
 use Rattle.catalogue.specs.Databases.{Rule, born_of, is_named, is_replica, kept_name, matching, names_another}
 use Rattle.catalogue.specs.declared.bars.Bars.{Bars}
-use Rattle.catalogue.specs.declared.held.HeldTable.{HeldTable}
+use Rattle.cat_objects.specs.declared.held.HeldTable.{HeldTable}
 use Rattle.catalogue.specs.declared.refusal.Refusal.TheVariants.{AlreadyExists, InvalidObject, InvalidOperation, InvalidRequest, IsReplica, NoSuchObject}
 use Rattle.kept_records.specs.Tables.{altered_table, have_same_keys, lower_columns, made_table}
 

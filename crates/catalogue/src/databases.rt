@@ -4,7 +4,7 @@ ghost use Rattle.std.specs.Prelude.{◌≡◌, [], ◌∷◌, IfOk, None, OnErr,
 ghost use Rattle.std.specs.Map.{keys_of};
 ghost use Rattle.cat_values.specs.Names.{lower, lower_name};
 ghost use Rattle.cat_types.specs.declared.replies.Reply.TheVariants.{Names, Nothing};
-ghost use Rattle.catalogue.specs.Catalogue.{database};
+ghost use Rattle.cat_objects.specs.Catalogue.{database};
 ghost use Rattle.catalogue.specs.Databases.{alter_database_rules, create_database_rules, database_altered, database_created, database_dropped, drop_database_rules, get_database_rules, kept_record, matching, names_another, shown_as};
 ghost use Rattle.catalogue.specs.Decisions.{Decides, decided_by};
 ghost use Rattle.catalogue.specs.Rules.{first_broken};
@@ -36,7 +36,7 @@ pub(crate) fn get_all_databases(alloc: Global, cat: &Cat) -> Decided
 pub(crate) fn get_databases(alloc: Global, cat: &Cat, pattern: &Text) -> Decided
     ensures { Decides (decided_by None None (Names (matching pattern.now (keys_of cat.now.databases)))) result }
 {
-    match matching_names(alloc, pattern, &cat.databases) {
+    match matching_names(alloc, pattern, cat.databases()) {
         Ok(names) => Decided::Reply(Reply::Names(names)),
         Err(NoMemory) => Decided::NoMemory,
     }
@@ -66,7 +66,7 @@ pub(crate) fn get_database(alloc: Global, cat: &Cat, bars: &Bars, name: &Text) -
     let Ok(name) = LowerName::of(alloc, name) else {
         return Decided::NoMemory;
     };
-    let Some(held) = cat.database(name.as_text()) else {
+    let Some(held) = cat.held_database(name.as_text()) else {
         return refused(alloc, Refusal::NoSuchObject);
     };
     match shown_database(alloc, &bars.replicas, name, held) {
@@ -124,7 +124,7 @@ pub(crate) fn drop_database(
     let Ok(name) = LowerName::of(alloc, name) else {
         return Decided::NoMemory;
     };
-    let Some(held) = cat.database(name.as_text()) else {
+    let Some(held) = cat.held_database(name.as_text()) else {
         return refused(alloc, Refusal::NoSuchObject);
     };
     if name.as_text().as_str() == DEFAULT {
@@ -160,7 +160,7 @@ pub(crate) fn alter_database(
     let Ok(name) = LowerName::of(alloc, name) else {
         return Decided::NoMemory;
     };
-    let Some(held) = cat.database(name.as_text()) else {
+    let Some(held) = cat.held_database(name.as_text()) else {
         return refused(alloc, Refusal::NoSuchObject);
     };
     if bars.is_replica(name.as_text()) {

@@ -1,7 +1,7 @@
 //! What a call is refused for, changes and results in.
 
 ghost use Rattle.std.specs.Prelude.{◌≡◌, [], ◌∷◌, IfOk, None, Some, true};
-ghost use Rattle.catalogue.specs.Changes.{takes_call};
+ghost use Rattle.cat_objects.specs.Changes.{takes_call};
 ghost use Rattle.catalogue.specs.Decisions.{Decides, IfChange, decided_by, refused};
 ghost use Rattle.catalogue.specs.Polls.{poll_of};
 ghost use Rattle.catalogue.specs.Rules.{decision, lacks_number, ruled};
@@ -13,7 +13,7 @@ use crate::table_changes::{decide_alter_table, decide_create_table, decide_drop_
 use crate::table_reads::{
     get_all_tables, get_fields, get_schema, get_table, get_table_req, get_tables, get_tables_named,
 };
-use crate::{Bars, Cat, Decided, Refusal};
+use crate::{Bars, Cat, Decided, LAST_EVENT, Refusal};
 use cat_types::{Call, Change, EventKind, ListOf, NoMemory, Op, Reply, Text};
 use std::alloc::Global;
 
@@ -22,9 +22,6 @@ pub const DATABASE_LIMIT: u64 = 1_000_000;
 
 /// How many tables a database has at most.
 pub const TABLE_LIMIT: u64 = 1_000_000;
-
-/// The greatest number of an event.
-pub const LAST_EVENT: u64 = 9_223_372_036_854_775_807;
 
 /// Decides a call over a catalogue: its refusal, or its change and its result. It needs a call that
 /// is no poll. `bars` says what bars changes, `moment` is the time in seconds since 1970, and `next`

@@ -1,26 +1,20 @@
-//! The catalogue: what each call is refused for, changes and results in, and how a change is done.
+//! The catalogue: what each call is refused for, changes and results in. How a change is done stands
+//! in `cat_objects`, whose types this crate hands on.
 #![tactic(auto)]
 
 mod bars;
-mod cat;
 mod databases;
 mod decided;
 mod decision;
-mod held;
-mod placing;
 mod poll;
 mod refusal;
-mod replaying;
 mod showing;
 mod table_changes;
 mod table_reads;
-mod tables;
 
 pub use bars::{Bars, ReplicaAt, ReplicaAts};
-pub use cat::Cat;
+pub use cat_objects::{Cat, HeldDb, HeldTable, LAST_EVENT, Placed};
 pub use decided::Decided;
-pub use decision::{DATABASE_LIMIT, LAST_EVENT, TABLE_LIMIT, decide};
-pub use held::{HeldDb, HeldTable};
-pub use placing::Placed;
+pub use decision::{DATABASE_LIMIT, TABLE_LIMIT, decide};
 pub use poll::{Poll, poll_of};
 pub use refusal::Refusal;

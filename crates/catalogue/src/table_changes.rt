@@ -5,7 +5,7 @@ ghost use Rattle.std.specs.Str.{bytes_eq};
 ghost use Rattle.cat_rules.specs.Tables.{do_fit_together};
 ghost use Rattle.cat_types.specs.declared.calls.Call.TheVariants.{AlterTable, CreateTable, DropTable};
 ghost use Rattle.cat_types.specs.declared.replies.Reply.TheVariants.{Nothing};
-ghost use Rattle.catalogue.specs.Catalogue.{at_name};
+ghost use Rattle.cat_objects.specs.Catalogue.{at_name};
 ghost use Rattle.catalogue.specs.Decisions.{Decides, decided_by};
 ghost use Rattle.catalogue.specs.Rules.{first_broken, ruled};
 ghost use Rattle.catalogue.specs.Tables.{alter_table_rules, drop_table_rules, fits_columns, is_dumping, table_altered, table_dropped};
@@ -38,7 +38,7 @@ pub(crate) fn decide_create_table(
     let Ok(db) = LowerName::of(alloc, db) else {
         return Decided::NoMemory;
     };
-    let Some(held) = cat.database(db.as_text()) else {
+    let Some(held) = cat.held_database(db.as_text()) else {
         return refused(alloc, Refusal::NoSuchObject);
     };
     if bars.is_replica(db.as_text()) {
@@ -172,7 +172,7 @@ impl<'a> Making<'a> {
 fn drop_table(alloc: Global, cat: &Cat, bars: &Bars, db: &Text, name: &Text) -> Decided
     ensures { Decides (decided_by (first_broken (drop_table_rules cat.now bars.now db.now name.now)) (Some (table_dropped cat.now db.now name.now)) Nothing) result }
 {
-    let Some(held) = cat.database(db) else {
+    let Some(held) = cat.held_database(db) else {
         return refused(alloc, Refusal::NoSuchObject);
     };
     if bars.is_replica(db) {
@@ -236,7 +236,7 @@ fn alter_table(
 ) -> Decided
     ensures { Decides (decided_by (first_broken (alter_table_rules cat.now bars.now db.now name.now new.now)) (Some (table_altered cat.now db.now name.now new.now moment)) Nothing) result }
 {
-    let Some(held) = cat.database(db) else {
+    let Some(held) = cat.held_database(db) else {
         return refused(alloc, Refusal::InvalidOperation);
     };
     if bars.is_replica(db) {

@@ -4,7 +4,7 @@ ghost use Rattle.std.specs.Prelude.{◌≡◌, ℕ, List, [], ◌∷◌, ◌++�
 ghost use Rattle.std.specs.Option.{option_copied};
 ghost use Rattle.cat_values.specs.Names.{lower, lower_name};
 ghost use Rattle.cat_types.specs.declared.replies.Reply.TheVariants.{Names, Tables};
-ghost use Rattle.catalogue.specs.Catalogue.{table};
+ghost use Rattle.cat_objects.specs.Catalogue.{table};
 ghost use Rattle.catalogue.specs.Databases.{matching};
 ghost use Rattle.catalogue.specs.Decisions.{Decides, decided_by};
 ghost use Rattle.catalogue.specs.Rules.{first_broken, requested_table};
@@ -27,7 +27,7 @@ pub(crate) fn get_tables(alloc: Global, cat: &Cat, db: &Text, pattern: &Text) ->
     let Ok(db) = LowerName::of(alloc, db) else {
         return Decided::NoMemory;
     };
-    let Some(held) = cat.database(db.as_text()) else {
+    let Some(held) = cat.held_database(db.as_text()) else {
         return Decided::Reply(Reply::Names(ListOf::new(alloc)));
     };
     match matching_names(alloc, pattern, &held.tables) {
@@ -59,7 +59,7 @@ pub(crate) fn get_table(alloc: Global, cat: &Cat, db: &Text, name: &Text) -> Dec
     let Ok(name) = LowerName::of(alloc, name) else {
         return Decided::NoMemory;
     };
-    let Some(held) = cat.table(db.as_text(), name.as_text()) else {
+    let Some(held) = cat.held_table(db.as_text(), name.as_text()) else {
         return refused(alloc, Refusal::NoSuchObject);
     };
     match one_table(alloc, db.as_text(), name.as_text(), &held.rec) {
@@ -166,7 +166,7 @@ fn push_if_there(
 ) -> Result<(), NoMemory>
     ensures { OnOk result (tables.new ≡ tables.old ++ table_then (table cat.now db.now name.now) db.now name.now []) }
 {
-    match cat.table(db, name) {
+    match cat.held_table(db, name) {
         Some(held) => push_table(alloc, tables, db, name, &held.rec),
         None => Ok(()),
     }
@@ -211,7 +211,7 @@ fn find_table<'a>(
 {
     let db = LowerName::of(alloc, db)?;
     let name = LowerName::of(alloc, name)?;
-    Ok(cat.table(db.as_text(), name.as_text()))
+    Ok(cat.held_table(db.as_text(), name.as_text()))
 }
 
 // Columns, and behind them others.

@@ -5,8 +5,8 @@ use Rattle.std.proofs.lemmas.List.{append-nil}
 use Rattle.cat_types.specs.declared.changes.Event.{Event}
 use Rattle.cat_types.specs.declared.steps.Step.{Step}
 use Rattle.cat_types.specs.declared.steps.Step.TheVariants.{Client}
-use Rattle.catalogue.specs.Catalogue.{Catalogue}
-use Rattle.catalogue.specs.Changes.{done}
+use Rattle.cat_objects.specs.Catalogue.{Catalogue}
+use Rattle.cat_objects.specs.Changes.{done}
 use Rattle.desk.specs.History.{Pending, Transition, Point, took, reopened, event_found, events_at, events_from, found, pending_at, next, point_after, point_of, state_found}
 use Rattle.desk.specs.Laws.{ChangesAndEventsStandTogether, Leads, Numbered, catalogue_after}
 use Rattle.desk.specs.State.{State, Written, due, event_in, event_of, is_refused, kept, with_written, writes, writing}

@@ -4,10 +4,10 @@ use Rattle.std.specs.List.Sorted.{IsStrictlySortedBy}
 use Rattle.cat_types.specs.declared.changes.Event.{Event}
 use Rattle.cat_types.specs.declared.changes.Op.{Op}
 use Rattle.cat_types.specs.declared.changes.Op.TheVariants.{DropDb, DropPart, DropTable, MovePart, MoveTable, PutDb, PutPart, PutTable}
-use Rattle.catalogue.specs.Catalogue.{Catalogue, database, is_name, new_catalogue}
-use Rattle.catalogue.specs.Changes.{changed_in, changed_tables, done, done_op, done_ops, put_table, with_record, with_tables, without_table}
-use Rattle.catalogue.specs.declared.held.HeldDb.{HeldDb}
-use Rattle.catalogue.specs.declared.held.HeldTable.{HeldTable}
+use Rattle.cat_objects.specs.Catalogue.{Catalogue, database, is_name, new_catalogue}
+use Rattle.cat_objects.specs.Changes.{changed_in, changed_tables, done, done_op, done_ops, put_table, with_record, with_tables, without_table}
+use Rattle.cat_objects.specs.declared.held.HeldDb.{HeldDb}
+use Rattle.cat_objects.specs.declared.held.HeldTable.{HeldTable}
 use Rattle.desk.specs.History.{Transition, events_from, point_after, point_of}
 use Rattle.desk.specs.Laws.{AreRising, NamesGoOnRising, NamesRise, NamesOfNewStoresRise, TableNamesGoOnRising, TableNamesOfNewStoresRise, TableNamesRise, catalogue_after}
 use Rattle.desk.specs.State.{start}

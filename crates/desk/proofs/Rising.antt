@@ -11,7 +11,7 @@ use Rattle.std.specs.Map.{keys_of, lookup, remove_entry, set_value}
 use Rattle.std.specs.Ordering.{match_ordering, nat_cmp, ordering_reverse}
 use Rattle.std.specs.declared.cmp.Ordering.{Ordering}
 use Rattle.std.specs.declared.cmp.Ordering.TheVariants.{Less, Equal, Greater}
-use Rattle.catalogue.specs.Catalogue.{at_name, is_name, put_at}
+use Rattle.cat_objects.specs.Catalogue.{at_name, is_name, put_at}
 use Rattle.desk.specs.Laws.{AreRising}
 
 -- ---- keys

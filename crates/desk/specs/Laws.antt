@@ -10,8 +10,8 @@ use Rattle.cat_types.specs.declared.changes.Event.{Event}
 use Rattle.cat_types.specs.declared.steps.Answer.TheVariants as answer
 use Rattle.cat_types.specs.declared.steps.Step.{Step}
 use Rattle.cat_types.specs.declared.steps.Step.TheVariants.{Client}
-use Rattle.catalogue.specs.Catalogue.{Catalogue}
-use Rattle.catalogue.specs.Changes.{done}
+use Rattle.cat_objects.specs.Catalogue.{Catalogue}
+use Rattle.cat_objects.specs.Changes.{done}
 use Rattle.catalogue.specs.Polls.{poll_of}
 use Rattle.desk.specs.History.{Entry, Transition, took, reopened, Point, Start, MayFollow, events_at, events_from, next, point_after, point_of}
 use Rattle.desk.specs.State.{State, due, durable, event_of, is_refused, start, writes}

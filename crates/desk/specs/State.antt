@@ -8,8 +8,8 @@ use Rattle.cat_types.specs.declared.steps.Answer.{Answer}
 use Rattle.cat_types.specs.declared.steps.Answer.TheVariants as answer
 use Rattle.cat_types.specs.declared.steps.Step.{Step}
 use Rattle.cat_types.specs.declared.steps.Step.TheVariants.{Client}
-use Rattle.catalogue.specs.Catalogue.{Catalogue, new_catalogue}
-use Rattle.catalogue.specs.Changes.{done, has_operation}
+use Rattle.cat_objects.specs.Catalogue.{Catalogue, new_catalogue}
+use Rattle.cat_objects.specs.Changes.{done, has_operation}
 use Rattle.catalogue.specs.Decisions.{Decision, accepted, refused}
 use Rattle.catalogue.specs.Polls.{poll_of}
 use Rattle.catalogue.specs.Refusals.{refusal_reply}

@@ -7,8 +7,8 @@ use Rattle.cat_types.specs.declared.changes.Op.{Op}
 use Rattle.cat_types.specs.declared.replies.Reply.{Reply}
 use Rattle.cat_types.specs.declared.steps.Answer.TheVariants as answer
 use Rattle.cat_types.specs.declared.steps.Step.TheVariants.{Client}
-use Rattle.catalogue.specs.Catalogue.{Catalogue}
-use Rattle.catalogue.specs.Changes.{are_some, has_operation, is_any, is_one, takes_call, takes_change}
+use Rattle.cat_objects.specs.Catalogue.{Catalogue}
+use Rattle.cat_objects.specs.Changes.{are_some, has_operation, is_any, is_one, takes_call, takes_change}
 use Rattle.catalogue.specs.Decisions.{Decision, accepted, refused, told}
 use Rattle.catalogue.specs.Polls.{poll_of}
 use Rattle.catalogue.specs.declared.decided.Decided.TheVariants as decided

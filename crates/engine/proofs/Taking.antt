@@ -2,7 +2,7 @@
 use Rattle.std.proofs.Common.{◌≡◌, ◌≤◌, ℕ, ◌+◌, ◌==◌, nat_le, true, List, [], ◌∷◌, ◌++◌, length, ◌∙◌, ap, arith, length-append}
 use Rattle.std.proofs.lemmas.Bool.Decides.{nat_tests}
 use Rattle.cat_types.specs.declared.changes.Event.{Event}
-use Rattle.catalogue.specs.Changes.{takes_change}
+use Rattle.cat_objects.specs.Changes.{takes_change}
 use Rattle.desk.specs.State.{State, kept}
 use Rattle.engine.proofs.Tests.{first_of, last_of}
 use Rattle.engine.specs.Opening.{takes}

@@ -1,6 +1,6 @@
 -- What the bytes of a store's disk open to.
 use Rattle.std.specs.Prelude.{◌≡◌, ◌⊎◌, ℕ, ◌+◌, ◌==◌, ⊤, Bool, ◌&&◌, List, [], ◌∷◌, take, drop, Option, None, Some, Result, Ok, Err, if◌then◌else◌}
-use Rattle.catalogue.specs.Changes.{takes_change}
+use Rattle.cat_objects.specs.Changes.{takes_change}
 use Rattle.change_codec.specs.Records.{an_entry}
 use Rattle.change_codec.specs.Whole.{whole}
 use Rattle.change_codec.specs.declared.entry.Entry.{Entry}

@@ -2,7 +2,7 @@
 
 ghost use Rattle.std.specs.Prelude.{◌≡◌, ◌<◌, ◌≤◌, ◌+◌, ◌++◌, ◌∷◌, [], true, Ok, IfOk, MatchResult, None, OnErr, OnOk, Some};
 ghost use Rattle.cat_types.specs.declared.steps.Step.TheVariants.{Client};
-ghost use Rattle.catalogue.specs.Changes.{takes_call, takes_change};
+ghost use Rattle.cat_objects.specs.Changes.{takes_call, takes_change};
 ghost use Rattle.catalogue.specs.Polls.{poll_of};
 ghost use Rattle.desk.specs.State.{kept, next_event, start, with_written};
 ghost use Rattle.engine.specs.Inside.{IsSure, Logged, Stepped, refused_by, seen_by};

@@ -23,15 +23,15 @@ use Rattle.cat_types.specs.declared.steps.Answer.{Answer}
 use Rattle.cat_types.specs.declared.steps.Answer.TheVariants as answer
 use Rattle.cat_types.specs.declared.steps.Step.{Step}
 use Rattle.cat_types.specs.declared.steps.Step.TheVariants as step
-use Rattle.catalogue.specs.Catalogue.{Catalogue, at_name, database, has_database, is_name, put_at, table}
-use Rattle.catalogue.specs.Changes.{changed_in, done, done_op, done_ops, has_operation, put_table, with_tables, without_table}
+use Rattle.cat_objects.specs.Catalogue.{Catalogue, at_name, database, has_database, is_name, put_at, table}
+use Rattle.cat_objects.specs.Changes.{changed_in, done, done_op, done_ops, has_operation, put_table, with_tables, without_table}
 use Rattle.catalogue.specs.Databases.{Rule, alter_database_rules, database_altered, database_dropped, drop_database_rules, kept_name, matching}
 use Rattle.catalogue.specs.Decisions.{decided_by}
 use Rattle.catalogue.specs.Rules.{first_broken, first_refusal, lacks_number, refusal, result_of, rules_of}
 use Rattle.catalogue.specs.Tables.{renames, table_altered, table_created, table_dropped, table_put}
 use Rattle.catalogue.specs.declared.bars.Bars.{Bars}
-use Rattle.catalogue.specs.declared.held.HeldDb.{HeldDb}
-use Rattle.catalogue.specs.declared.held.HeldTable.{HeldTable}
+use Rattle.cat_objects.specs.declared.held.HeldDb.{HeldDb}
+use Rattle.cat_objects.specs.declared.held.HeldTable.{HeldTable}
 use Rattle.catalogue.specs.declared.refusal.Refusal.{Refusal}
 use Rattle.desk.specs.History.{Entry, IsLegal, MayFollow, Point, next, point_of, took}
 use Rattle.desk.specs.State.{State, MayAnswer, bars_of, due as due_in, kept, next_event, start, state_after_answer, with_written, writes, written_by}

@@ -11,8 +11,8 @@ use Rattle.cat_types.specs.declared.steps.Answer.{Answer}
 use Rattle.cat_types.specs.declared.steps.Answer.TheVariants as answer
 use Rattle.cat_types.specs.declared.steps.Step.{Step}
 use Rattle.cat_types.specs.declared.steps.Step.TheVariants as step
-use Rattle.catalogue.specs.Catalogue.{Catalogue, database, table}
-use Rattle.catalogue.specs.Changes.{has_operation}
+use Rattle.cat_objects.specs.Catalogue.{Catalogue, database, table}
+use Rattle.cat_objects.specs.Changes.{has_operation}
 use Rattle.catalogue.specs.Databases.{Rule, kept_name, shown_as}
 use Rattle.catalogue.specs.Decisions.{decided_by}
 use Rattle.catalogue.specs.Polls.{poll_of}

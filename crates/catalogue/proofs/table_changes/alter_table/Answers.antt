@@ -1,7 +1,7 @@
 use Rattle.std.proofs.Common.{◌≡◌, true, false, Option, Some, rules, ap, ◌∙◌}
-use Rattle.catalogue.specs.Catalogue.{at_name, database, table, tables_of}
+use Rattle.cat_objects.specs.Catalogue.{at_name, database, table, tables_of}
 use Rattle.catalogue.specs.Databases.{is_named, is_replica, kept_name, names_another}
-use Rattle.catalogue.specs.declared.held.HeldDb.{HeldDb}
+use Rattle.cat_objects.specs.declared.held.HeldDb.{HeldDb}
 use Rattle.catalogue.proofs.DecidingTables.{table_is_altered}
 use Rattle.catalogue.proofs.table_changes.alter_table.Goals as goal
 

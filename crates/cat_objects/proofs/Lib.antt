@@ -1,0 +1,4 @@
+pub mod Maps
+pub mod Editing
+pub mod PlacedBack
+pub mod Taking

@@ -1,0 +1,35 @@
+-- What the steps leave by which a change is placed, or done again.
+use Rattle.std.specs.Prelude.{◌≡◌, ℕ, Bool, true, false, not, List, [], Result, Ok, Err}
+use Rattle.std.specs.BTreeMap.{insert_entry}
+use Rattle.std.specs.Cmp.Lexicographic.{slice_cmp}
+use Rattle.std.specs.Ordering.{nat_cmp}
+use Rattle.cat_types.specs.declared.changes.Op.{Op}
+use Rattle.cat_types.specs.declared.changes.Op.TheVariants.{DropDb, DropPart, DropTable, MovePart, MoveTable, PutDb, PutPart, PutTable}
+use Rattle.cat_values.specs.declared.records.DbRec.{DbRec}
+use Rattle.cat_objects.specs.Catalogue.{Catalogue, has_table}
+use Rattle.cat_objects.specs.Changes.{settled, taken_back}
+use Rattle.cat_objects.specs.declared.placing.Placed.{Placed}
+
+-- what was placed, settled, gives the catalogue that is wanted, and taken back gives the one before; without memory the catalogue is the one before
+abbrev pub Places : {E : Type 0} → Result Placed E → Catalogue → Catalogue → Catalogue → Type 0
+Places (Ok placed) after wanted before = (settled placed after ≡ wanted) × (taken_back placed after ≡ before)
+Places (Err e) after wanted before = after ≡ before
+
+-- whether an operation can be placed: what it moves a table to is free, and it is none on partitions
+abbrev pub is_placeable : Catalogue → List ℕ → Op → Bool
+is_placeable cat db (PutDb rec) = true
+is_placeable cat db DropDb = true
+is_placeable cat db (PutTable name born rec) = true
+is_placeable cat db (DropTable name born) = true
+is_placeable cat db (MoveTable name born to rec) = not (has_table cat db to)
+is_placeable cat db (PutPart name born values rec) = false
+is_placeable cat db (DropPart name born values) = false
+is_placeable cat db (MovePart name born values to rec) = false
+
+-- a catalogue with a database that wasn't there
+abbrev pub with_new : Catalogue → List ℕ → ℕ → DbRec → Catalogue
+with_new cat name born rec = record { databases = insert_entry (slice_cmp nat_cmp) cat.databases name (record { born = born; rec = rec; tables = [] }) }
+
+-- an answer is whether operations could be done, and where it is yes the catalogue is the one that is wanted
+abbrev pub Redoes : Bool → Catalogue → Bool → Catalogue → Type 0
+Redoes taken after fits wanted = (taken ≡ fits) × (taken ≡ true → after ≡ wanted)

@@ -1,0 +1,12 @@
+//! The catalogue's objects, and how a change is done on them.
+#![tactic(auto)]
+
+mod cat;
+mod edits;
+mod held;
+mod placing;
+mod replaying;
+
+pub use cat::{Cat, LAST_EVENT};
+pub use held::{HeldDb, HeldTable};
+pub use placing::Placed;
