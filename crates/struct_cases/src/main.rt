@@ -3,6 +3,7 @@
 
 mod again;
 mod faults;
+mod partitions;
 mod requests;
 mod structs;
 mod tables;

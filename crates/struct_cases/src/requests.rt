@@ -22,8 +22,8 @@ fn told_names(alloc: Global, request: &TableRequest) -> Result<String, Unable> {
     Ok(format!(in alloc; "{db} {table}")?)
 }
 
-// A text, where there is one.
-fn text_or_none<'a>(text: Option<&'a Text>) -> &'a str {
+/// A text, where there is one.
+pub fn text_or_none<'a>(text: Option<&'a Text>) -> &'a str {
     match text {
         Some(text) => text.as_str(),
         None => "none",

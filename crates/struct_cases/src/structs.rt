@@ -1,6 +1,7 @@
 //! Structs off the wire and onto it again.
 
 use crate::again::{Reader, rewritten};
+use crate::partitions::{Told, rewritten_partition, told_adding};
 use crate::requests::{told_context, told_request};
 use crate::tables::{Form, rewritten_table};
 use cat_types::{Bytes, Column, Order, Serde, Skew, Storage};
@@ -12,7 +13,8 @@ use thrift_binary::WireReader;
 /// Reads the struct that an input spells, and writes it again. An input is the struct's kind and its
 /// bytes. The outcome is the bytes that are written; of a struct that is only read, what it asks for; and
 /// `bad text`, `truncated PLACE`, `bad CODE PLACE` or `too large PLACE` where nothing is read. A
-/// GetTableResult, which is only written, is made of a Table.
+/// GetTableResult, which is only written, is made of a Table, and an AddPartitionsResult of an
+/// AddPartitionsRequest.
 pub struct Structs;
 
 impl Answers for Structs {
@@ -39,6 +41,9 @@ fn told(alloc: Global, kind: &str, reader: &mut Reader<'_>) -> Result<String, Un
         "StorageDescriptor" => rewritten::<Storage>(alloc, reader),
         "Table" => rewritten_table(alloc, reader, Form::Table),
         "GetTableResult" => rewritten_table(alloc, reader, Form::Result),
+        "Partition" => rewritten_partition(alloc, reader),
+        "AddPartitionsRequest" => told_adding(alloc, reader, Told::Request),
+        "AddPartitionsResult" => told_adding(alloc, reader, Told::Result),
         "GetTableRequest" => told_request(alloc, reader),
         "EnvironmentContext" => told_context(alloc, reader),
         _ => Err(Unable::Form),

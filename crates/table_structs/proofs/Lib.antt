@@ -2,6 +2,8 @@ pub mod ColumnLaws
 pub mod ContextLaws
 pub mod Exits
 pub mod OrderLaws
+pub mod PartRequestLaws
+pub mod PartitionLaws
 pub mod RequestLaws
 pub mod SerdeLaws
 pub mod SkewLaws

@@ -6,6 +6,7 @@ use Rattle.std.specs.List.Sorted.{IsStrictlySortedBy}
 use Rattle.std.specs.Map.{keys_of}
 use Rattle.std.specs.Ordering.{nat_cmp}
 use Rattle.std.specs.Str.{IsUtf8}
+use Rattle.cat_types.specs.declared.named.NamedPart.{NamedPart}
 use Rattle.cat_types.specs.declared.named.NamedTable.{NamedTable}
 use Rattle.cat_values.specs.declared.storage.Column.{Column}
 use Rattle.cat_values.specs.declared.storage.Order.{Order}
@@ -67,3 +68,11 @@ pub record IsKeptTable (table : NamedTable) : Type 0 where
   pub view_original : IsTextOrNone table.rec.view_original
   pub view_expanded : IsTextOrNone table.rec.view_expanded
   pub kind : IsTextOrNone table.rec.kind
+
+-- a partition with its names and its values
+pub record IsKeptPartition (part : NamedPart) : Type 0 where
+  pub values : AllByRecursion IsUtf8 part.values
+  pub db : IsUtf8 part.db
+  pub table : IsUtf8 part.table
+  pub sd : IfSome part.rec.sd IsKeptStorage
+  pub params : AreParams part.rec.params

@@ -3,6 +3,8 @@ pub mod Contexts
 pub mod Kept
 pub mod Laws
 pub mod Orders
+pub mod PartRequests
+pub mod Partitions
 pub mod Requests
 pub mod Serdes
 pub mod Skews

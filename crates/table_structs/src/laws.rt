@@ -4,8 +4,10 @@ ghost use Rattle.ms_structs.specs.Laws.{OrderIsFree};
 ghost use Rattle.table_structs.specs.Columns.{column_of, column_tree};
 ghost use Rattle.table_structs.specs.Contexts.{context_of};
 ghost use Rattle.table_structs.specs.Kept.{IsKeptColumn, IsKeptOrder, IsKeptSerde, IsKeptSkew, IsKeptStorage};
-ghost use Rattle.table_structs.specs.Laws.{ReadsBack, TablesReadBack};
+ghost use Rattle.table_structs.specs.Laws.{PartitionsReadBack, ReadsBack, TablesReadBack};
 ghost use Rattle.table_structs.specs.Orders.{order_of, order_tree};
+ghost use Rattle.table_structs.specs.PartRequests.{adding_of};
+ghost use Rattle.table_structs.specs.Partitions.{partition_of};
 ghost use Rattle.table_structs.specs.Requests.{request_of};
 ghost use Rattle.table_structs.specs.Serdes.{serde_of, serde_tree};
 ghost use Rattle.table_structs.specs.Skews.{skew_of, skew_tree};
@@ -22,6 +24,8 @@ pub fn order_is_free()
     ensures tables { OrderIsFree table_of }
     ensures contexts { OrderIsFree context_of }
     ensures requests { OrderIsFree request_of }
+    ensures partitions { OrderIsFree partition_of }
+    ensures adding { OrderIsFree adding_of }
 {}
 
 /// What is written reads back as it was.
@@ -32,4 +36,5 @@ pub fn written_is_read()
     ensures skews { ReadsBack IsKeptSkew skew_of skew_tree }
     ensures storages { ReadsBack IsKeptStorage storage_of storage_tree }
     ensures tables { TablesReadBack }
+    ensures partitions { PartitionsReadBack }
 {}

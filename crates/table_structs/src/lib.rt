@@ -7,6 +7,8 @@ mod columns;
 mod contexts;
 mod laws;
 mod orders;
+mod part_requests;
+mod partitions;
 mod requests;
 mod serdes;
 mod skews;
@@ -18,6 +20,10 @@ pub use columns::{ColumnFields, read_field_schema, write_field_schema};
 pub use contexts::{ContextFields, read_environment_context};
 pub use laws::{order_is_free, written_is_read};
 pub use orders::{OrderFields, read_order, write_order};
+pub use part_requests::{
+    AddPartitionsFields, read_add_partitions_request, write_add_partitions_result,
+};
+pub use partitions::{PartitionFields, read_partition, write_partition};
 pub use requests::{
     TableRequest, TableRequestFields, read_get_table_request, write_get_table_result,
 };
