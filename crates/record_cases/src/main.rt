@@ -9,6 +9,7 @@ mod lists;
 mod maps;
 mod one_by_one;
 mod outcome;
+mod part_calls;
 mod phases;
 mod records;
 mod replies;

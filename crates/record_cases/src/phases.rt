@@ -18,14 +18,6 @@ impl Worded for Phase {
             _ => Err(Unable::Form),
         }
     }
-
-    fn words(&self, alloc: Global) -> Result<String, Unable> {
-        match self {
-            Phase::Items(dump, count) => Ok(format!(in alloc; "items {dump} {count}")?),
-            Phase::Events(dump, at) => Ok(format!(in alloc; "events {dump} {at}")?),
-            Phase::Live(at) => Ok(format!(in alloc; "live {at}")?),
-        }
-    }
 }
 
 /// The number of a word.

@@ -1,9 +1,10 @@
 //! Calls on tables in words.
 
 use crate::outcome::words_of;
-use crate::texts::{joined, texts_of};
-use crate::worded::{table_owned_by, text_of, word_of};
-use cat_types::{Call, TableArg, Text, Texts};
+use crate::part_calls::part_call_of;
+use crate::texts::texts_of;
+use crate::worded::{table_owned_by, text_of};
+use cat_types::{Call, TableArg, Text};
 use std::alloc::Global;
 use table_cases::Unable;
 
@@ -19,7 +20,10 @@ pub fn table_call_of(alloc: Global, call: &str, words: &str) -> Result<Call, Una
         "get_table_req" => get_table_req(alloc, words),
         "get_table_objects_by_name" => get_tables_named(alloc, words),
         "alter_table" => alter_table(alloc, words),
-        _ => call_by_names(alloc, call, words),
+        "drop_table" | "get_tables" | "get_table" | "get_fields" | "get_schema" => {
+            call_by_names(alloc, call, words)
+        }
+        _ => part_call_of(alloc, call, words),
     }
 }
 
@@ -36,30 +40,12 @@ fn call_by_names(alloc: Global, call: &str, words: &str) -> Result<Call, Unable>
     }
 }
 
-// Two names.
-fn names_of(alloc: Global, words: &str) -> Result<(Text, Text), Unable> {
+/// Two names.
+pub fn names_of(alloc: Global, words: &str) -> Result<(Text, Text), Unable> {
     let (first, second) = words_of(words);
     let first = Text::of(alloc, first)?;
     let second = Text::of(alloc, second)?;
     Ok((first, second))
-}
-
-/// A call whose argument is a name, in words.
-pub fn name_words(alloc: Global, call: &str, name: &Text) -> Result<String, Unable> {
-    let name = name.as_str();
-    Ok(format!(in alloc; "{call} {name}")?)
-}
-
-/// A call whose arguments are two names, in words.
-pub fn names_words(
-    alloc: Global,
-    call: &str,
-    first: &Text,
-    second: &Text,
-) -> Result<String, Unable> {
-    let first = first.as_str();
-    let second = second.as_str();
-    Ok(format!(in alloc; "{call} {first} {second}")?)
 }
 
 // A request for a table, whose names may be absent.
@@ -70,30 +56,12 @@ fn get_table_req(alloc: Global, words: &str) -> Result<Call, Unable> {
     Ok(Call::GetTableReq { db, table })
 }
 
-/// A request for a table, in words.
-pub fn get_table_req_words(
-    alloc: Global,
-    db: &Option<Text>,
-    table: &Option<Text>,
-) -> Result<String, Unable> {
-    let db = word_of(db);
-    let table = word_of(table);
-    Ok(format!(in alloc; "get_table_req {db} {table}")?)
-}
-
 // The look-up of tables, by their database and their names with commas between them.
 fn get_tables_named(alloc: Global, words: &str) -> Result<Call, Unable> {
     let (db, tables) = words_of(words);
     let db = Text::of(alloc, db)?;
     let tables = texts_of(alloc, tables)?;
     Ok(Call::GetTableObjectsByName { db, tables })
-}
-
-/// The look-up of tables, in words.
-pub fn get_tables_named_words(alloc: Global, db: &Text, tables: &Texts) -> Result<String, Unable> {
-    let db = db.as_str();
-    let tables = joined(alloc, tables)?;
-    Ok(format!(in alloc; "get_table_objects_by_name {db} {tables}")?)
 }
 
 // The change of a table, by its names and the table that is handed in.
@@ -104,25 +72,6 @@ fn alter_table(alloc: Global, words: &str) -> Result<Call, Unable> {
     let table = Text::of(alloc, table)?;
     let new = table_arg_of(alloc, new)?;
     Ok(Call::AlterTable { db, table, new })
-}
-
-/// The making of a table, in words.
-pub fn create_table_words(alloc: Global, table: &TableArg) -> Result<String, Unable> {
-    let table = table_arg_words(alloc, table)?;
-    Ok(format!(in alloc; "create_table {table}")?)
-}
-
-/// The change of a table, in words.
-pub fn alter_table_words(
-    alloc: Global,
-    db: &Text,
-    table: &Text,
-    new: &TableArg,
-) -> Result<String, Unable> {
-    let db = db.as_str();
-    let table = table.as_str();
-    let new = table_arg_words(alloc, new)?;
-    Ok(format!(in alloc; "alter_table {db} {table} {new}")?)
 }
 
 // A table that is handed in, by the words `DB TABLE STORED OWNER`.
@@ -149,13 +98,4 @@ fn is_stored(word: &str) -> Result<bool, Unable> {
         "bare" => Ok(false),
         _ => Err(Unable::Form),
     }
-}
-
-// A table that is handed in, in words.
-fn table_arg_words(alloc: Global, arg: &TableArg) -> Result<String, Unable> {
-    let db = word_of(&arg.db);
-    let table = word_of(&arg.table);
-    let stored = if arg.has_sd { "stored" } else { "bare" };
-    let owner = word_of(&arg.rec.owner);
-    Ok(format!(in alloc; "{db} {table} {stored} {owner}")?)
 }

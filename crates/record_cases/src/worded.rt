@@ -9,25 +9,14 @@ use table_cases::Unable;
 pub trait Worded: TryCopy {
     /// The value of these words.
     fn of(alloc: Global, words: &str) -> Result<Self, Unable>;
-
-    /// The words of a value.
-    fn words(&self, alloc: Global) -> Result<String, Unable>;
 }
 
-/// `kept` where the words of a copy of the value are the value's own, else the copy's words.
+/// `copied` where there is memory for a copy of the value of these words. That a copy is equal is a
+/// clause of `copy`.
 pub fn copied<W: Worded>(alloc: Global, words: &str) -> Result<String, Unable> {
-    let copy = copy_of::<W>(alloc, words)?;
-    let came = copy.words(alloc)?;
-    if came.as_str() == words {
-        return said(alloc, "kept");
-    }
-    Ok(came)
-}
-
-// A copy of the value of these words, after that value itself was dropped.
-fn copy_of<W: Worded>(alloc: Global, words: &str) -> Result<W, Unable> {
     let value = W::of(alloc, words)?;
-    Ok(value.copy(alloc)?)
+    let _ = value.copy(alloc)?;
+    said(alloc, "copied")
 }
 
 /// The text of a word, where `-` stands for none.
@@ -36,14 +25,6 @@ pub fn text_of(alloc: Global, word: &str) -> Result<Option<Text>, Unable> {
         return Ok(None);
     }
     Ok(Some(Text::of(alloc, word)?))
-}
-
-/// The word of a text.
-pub fn word_of(text: &Option<Text>) -> &str {
-    match text {
-        Some(text) => text.as_str(),
-        None => "-",
-    }
 }
 
 /// A database's record with this owner alone.
