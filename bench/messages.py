@@ -65,6 +65,18 @@ def get_table(db, name):
     return message(b"get_table", field(11, 1, text(db)) + field(11, 2, text(name)))
 
 
+def partition(db, name, values, columns):
+    """A Partition as query engines make one: its values, and where and how its rows are stored."""
+    place = b"/".join([b"hdfs://nn/warehouse/" + db + b".db/" + name, *values])
+    named = field(15, 1, b"\x0b" + struct.pack(">i", len(values)) + b"".join(map(text, values)))
+    stored = field(12, 6, storage(columns, place)) + field(13, 7, texts([(b"numRows", b"1000"), (b"totalSize", b"65536")]))
+    return named + field(11, 2, text(db)) + field(11, 3, text(name)) + stored + b"\0"
+
+
+def add_partitions(parts):
+    return message(b"add_partitions", field(15, 1, structs(parts)))
+
+
 LISTING = message(b"get_all_databases")
 MADE = bytes.fromhex("80010002") + message(b"create_database")[4:]  # the reply to the creation of a database
 

@@ -1,12 +1,15 @@
 """What the scripts of bench/ share: running the built programs, and taking their times."""
 
-import os, resource, subprocess, sys, tempfile, time
+import os, resource, subprocess, sys, tempfile, threading, time
 from contextlib import contextmanager
 from dataclasses import dataclass
 
-from messages import make_store
+from messages import field, make_store, message
 
 TOP = os.path.dirname(os.path.dirname(os.path.abspath(__file__)))
+IN_MEMORY = "/dev/shm" if os.path.isdir("/dev/shm") else None  # where a sync costs nothing, if there is such a place
+STATUS = message(b"getStatus")
+ALIVE = bytes.fromhex("80010002") + STATUS[4:-1] + field(8, 0, b"\0\0\0\2") + b"\0"  # the reply to it
 
 
 def argument(place, default):
@@ -102,3 +105,35 @@ def served_anew(messages):
     """The same at a new store."""
     with new_store() as command:
         return served(command, messages)
+
+
+class Session:
+    """A session that is asked piece by piece."""
+
+    def __init__(self, command):
+        self.child = subprocess.Popen(command, stdin=subprocess.PIPE, stdout=subprocess.PIPE, bufsize=0)
+
+    def feed(self, given):
+        with memoryview(given) as left:
+            while left:
+                left = left[self.child.stdin.write(left) :]
+
+    def seconds(self, messages):
+        """The seconds from the first of these messages to the reply to the last."""
+        given, end = b"".join(messages) + STATUS, b""
+        feeder = threading.Thread(target=self.feed, args=(given,))
+        start = time.monotonic()
+        feeder.start()
+        while end != ALIVE:
+            piece = os.read(self.child.stdout.fileno(), 1 << 20)
+            if not piece:
+                raise SystemExit(f"a session ended with status {self.child.wait()}")
+            end = (end + piece)[-len(ALIVE) :]
+        feeder.join()
+        return time.monotonic() - start
+
+    def end(self):
+        self.child.stdin.close()
+        self.child.stdout.close()
+        if self.child.wait():
+            raise SystemExit(f"a session ended with status {self.child.returncode}")
