@@ -15,7 +15,7 @@ use Rattle.thrift_binary.specs.Wire.{IsWire}
 use Rattle.ms_calls.specs.declared.method.Method.{Method}
 use Rattle.ms_calls.specs.declared.method.Method.TheVariants as method
 use Rattle.ms_calls.specs.declared.request.Asked.{Asked}
-use Rattle.ms_calls.specs.Arguments.{alter_table_call, and_then, create_table_call, drop_database_call, drop_table_call, from_two, needed, set_ugi_reply}
+use Rattle.ms_calls.specs.Arguments.{alter_table_call, create_table_call, drop_database_call, drop_table_call, from_one, from_two, set_ugi_reply}
 use Rattle.ms_calls.specs.Asked.{CameAs, IfClient, IfPlain, IsMethodOf, asked_by, client, context_at, database_at, flag_at, plain, table_at, text_at, texts_at}
 use Rattle.ms_structs.specs.Notifications.{request_of as poll_of}
 use Rattle.ms_structs.specs.Slots.{said}
@@ -29,7 +29,7 @@ abbrev Fits : Option Method → Asked → Type 0
 Fits m asked = IfPlain asked (CanReply m) × IfClient asked (CameAs m)
 
 -- what one argument makes, that must be there
-one_fits : {A : Type 0} (m : Method) (make : A → Call) (first : Got A) → ((a : A) → IsMethodOf (make a) m) → Fits (Some m) (client (and_then (needed (pos 1) first) (λ a. Ok (make a))))
+one_fits : {A : Type 0} (m : Method) (make : A → Call) (first : Got A) → ((a : A) → IsMethodOf (make a) m) → Fits (Some m) (client (from_one first make))
 one_fits m make Nothing is = (tt, tt)
 one_fits m make BadText is = (tt, tt)
 one_fits m make (Is a) is = (tt, is a)

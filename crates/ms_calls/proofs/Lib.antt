@@ -4,4 +4,3 @@ mod OrderIsFree
 mod Places
 mod Structs
 mod UnderZero
-mod Wrong

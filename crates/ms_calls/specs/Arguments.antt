@@ -6,6 +6,10 @@ use Rattle.cat_types.specs.declared.calls.Call.{Call}
 use Rattle.cat_types.specs.declared.calls.Call.TheVariants.{AlterDatabase, AlterTable, CreateDatabase, CreateTable, DropDatabase, DropTable, GetAllTables, GetDatabase, GetDatabases, GetFields, GetNextNotification, GetSchema, GetTable, GetTableObjectsByName, GetTableReq, GetTables}
 use Rattle.cat_types.specs.declared.replies.Reply.{Reply}
 use Rattle.cat_types.specs.declared.replies.Reply.TheVariants.{Names}
+use Rattle.ms_calls.specs.declared.of_texts.OfText.{OfText}
+use Rattle.ms_calls.specs.declared.of_texts.OfText.TheVariants as of_text
+use Rattle.ms_calls.specs.declared.of_texts.OfTwoTexts.{OfTwoTexts}
+use Rattle.ms_calls.specs.declared.of_texts.OfTwoTexts.TheVariants as of_two_texts
 use Rattle.ms_structs.specs.declared.got.Got.{Got}
 use Rattle.ms_structs.specs.declared.got.Got.TheVariants.{Nothing, BadText, Is}
 use Rattle.ms_structs.specs.declared.notification_request.NotificationRequest.{NotificationRequest}
@@ -28,9 +32,45 @@ abbrev pub and_then : {A B : Type 0} → Result A ℤ → (A → Result B ℤ) �
 and_then (Ok value) go = go value
 and_then (Err id) go = Err id
 
--- two arguments that must be there: they make this
+-- one argument that must be there: it makes this
+abbrev pub from_one : {A C : Type 0} → Got A → (A → C) → Result C ℤ
+from_one first make = and_then (needed (pos 1) first) (λ a. Ok (make a))
+
+-- two arguments that must be there
+abbrev pub needed_two : {A B : Type 0} → Got A → Got B → Result (A × B) ℤ
+needed_two first second = and_then (needed (pos 1) first) (λ a. and_then (needed (pos 2) second) (λ b. Ok (a, b)))
+
+-- they make this
 abbrev pub from_two : {A B C : Type 0} → Got A → Got B → (A → B → C) → Result C ℤ
-from_two first second make = and_then (needed (pos 1) first) (λ a. and_then (needed (pos 2) second) (λ b. Ok (make a b)))
+from_two first second make = and_then (needed_two first second) (λ all. Ok (make all.0 all.1))
+
+-- three arguments that must be there
+abbrev pub needed_three : {A B C : Type 0} → Got A → Got B → Got C → Result (A × B × C) ℤ
+needed_three first second third = and_then (needed (pos 1) first) (λ a. and_then (needed (pos 2) second) (λ b. and_then (needed (pos 3) third) (λ c. Ok (a, b, c))))
+
+-- they make this
+abbrev pub from_three : {A B C D : Type 0} → Got A → Got B → Got C → (A → B → C → D) → Result D ℤ
+from_three first second third make = and_then (needed_three first second third) (λ all. Ok (make all.0 all.1 all.2))
+
+-- what the other arguments make stays, whatever a context says that comes with them; but a bad text in it is a wrong argument
+abbrev pub with_context : {A : Type 0} → ℤ → Got ⊤ → Result A ℤ → Result A ℤ
+with_context id context made = and_then made (λ value. and_then (given id tt context) (λ _. Ok value))
+
+-- ---- calls of one shape
+
+-- the call that a text makes
+abbrev pub call_of_text : OfText → List ℕ → Call
+call_of_text of_text.GetDatabase name = GetDatabase name
+call_of_text of_text.GetDatabases pattern = GetDatabases pattern
+call_of_text of_text.GetAllTables db = GetAllTables db
+
+-- the call that a database and another text make
+abbrev pub call_of_two_texts : OfTwoTexts → List ℕ → List ℕ → Call
+call_of_two_texts of_two_texts.DropTable db table = DropTable db table
+call_of_two_texts of_two_texts.GetTables db pattern = GetTables db pattern
+call_of_two_texts of_two_texts.GetTable db table = GetTable db table
+call_of_two_texts of_two_texts.GetFields db table = GetFields db table
+call_of_two_texts of_two_texts.GetSchema db table = GetSchema db table
 
 -- ---- the server itself
 
@@ -42,11 +82,11 @@ set_ugi_reply user groups = and_then (needed (pos 1) user) (λ user. and_then (g
 
 -- create_database: 1 the database
 abbrev pub create_database_call : Got DbArg → Result Call ℤ
-create_database_call db = and_then (needed (pos 1) db) (λ db. Ok (CreateDatabase db))
+create_database_call db = from_one db CreateDatabase
 
 -- get_database: 1 the name
 abbrev pub get_database_call : Got (List ℕ) → Result Call ℤ
-get_database_call name = and_then (needed (pos 1) name) (λ name. Ok (GetDatabase name))
+get_database_call name = from_one name GetDatabase
 
 -- drop_database: 1 the name, 3 whether all that it holds is dropped; an absent flag is false
 abbrev pub drop_database_call : Got (List ℕ) → Got Bool → Result Call ℤ
@@ -54,7 +94,7 @@ drop_database_call name cascade = and_then (needed (pos 1) name) (λ name. and_t
 
 -- get_databases: 1 the pattern
 abbrev pub get_databases_call : Got (List ℕ) → Result Call ℤ
-get_databases_call pattern = and_then (needed (pos 1) pattern) (λ pattern. Ok (GetDatabases pattern))
+get_databases_call pattern = from_one pattern GetDatabases
 
 -- alter_database: 1 the name, 2 the new record
 abbrev pub alter_database_call : Got (List ℕ) → Got DbArg → Result Call ℤ
@@ -64,11 +104,11 @@ alter_database_call name db = from_two name db AlterDatabase
 
 -- create_table: 1 the table, and in its other spelling 2 a context, of which nothing is used
 abbrev pub create_table_call : Got TableArg → Got ⊤ → Result Call ℤ
-create_table_call table context = and_then (needed (pos 1) table) (λ table. and_then (given (pos 2) tt context) (λ _. Ok (CreateTable table)))
+create_table_call table context = with_context (pos 2) context (from_one table CreateTable)
 
 -- drop_table: 1 the database, 2 the table, and in its other spelling 4 a context, of which nothing is used
 abbrev pub drop_table_call : Got (List ℕ) → Got (List ℕ) → Got ⊤ → Result Call ℤ
-drop_table_call db table context = and_then (from_two db table DropTable) (λ call. and_then (given (pos 4) tt context) (λ _. Ok call))
+drop_table_call db table context = with_context (pos 4) context (from_two db table DropTable)
 
 -- get_tables: 1 the database, 2 the pattern
 abbrev pub get_tables_call : Got (List ℕ) → Got (List ℕ) → Result Call ℤ
@@ -76,7 +116,7 @@ get_tables_call db pattern = from_two db pattern GetTables
 
 -- get_all_tables: 1 the database
 abbrev pub get_all_tables_call : Got (List ℕ) → Result Call ℤ
-get_all_tables_call db = and_then (needed (pos 1) db) (λ db. Ok (GetAllTables db))
+get_all_tables_call db = from_one db GetAllTables
 
 -- get_table: 1 the database, 2 the table
 abbrev pub get_table_call : Got (List ℕ) → Got (List ℕ) → Result Call ℤ
@@ -84,7 +124,7 @@ get_table_call db table = from_two db table GetTable
 
 -- get_table_req: 1 the request, whose names may be absent
 abbrev pub get_table_req_call : Got TableRequest → Result Call ℤ
-get_table_req_call request = and_then (needed (pos 1) request) (λ request. Ok (GetTableReq request.db request.table))
+get_table_req_call request = from_one request (λ request. GetTableReq request.db request.table)
 
 -- get_table_objects_by_name: 1 the database, 2 the tables
 abbrev pub get_table_objects_by_name_call : Got (List ℕ) → Got (List (List ℕ)) → Result Call ℤ
@@ -92,8 +132,7 @@ get_table_objects_by_name_call db tables = from_two db tables GetTableObjectsByN
 
 -- alter_table: 1 the database, 2 the table, 3 the new record, and in its other spelling 4 a context, of which nothing is used
 abbrev pub alter_table_call : Got (List ℕ) → Got (List ℕ) → Got TableArg → Got ⊤ → Result Call ℤ
-alter_table_call db table new context =
-    and_then (needed (pos 1) db) (λ db. and_then (needed (pos 2) table) (λ table. and_then (needed (pos 3) new) (λ new. and_then (given (pos 4) tt context) (λ _. Ok (AlterTable db table new)))))
+alter_table_call db table new context = with_context (pos 4) context (from_three db table new AlterTable)
 
 -- get_fields: 1 the database, 2 the table
 abbrev pub get_fields_call : Got (List ℕ) → Got (List ℕ) → Result Call ℤ
@@ -107,4 +146,4 @@ get_schema_call db table = from_two db table GetSchema
 
 -- get_next_notification: 1 the request
 abbrev pub get_next_notification_call : Got NotificationRequest → Result Call ℤ
-get_next_notification_call request = and_then (needed (pos 1) request) (λ request. Ok (GetNextNotification request.last request.max))
+get_next_notification_call request = from_one request (λ request. GetNextNotification request.last request.max)

@@ -134,6 +134,7 @@ IsMethodOf (GetFields db table) named = named ≡ method.GetFields
 IsMethodOf (GetSchema db table) named = named ≡ method.GetSchema
 IsMethodOf (GetNextNotification last max) named = named ≡ method.GetNextNotification
 IsMethodOf GetCurrentNotificationEventId named = named ≡ method.GetCurrentNotificationEventId
+IsMethodOf other named = ⊥
 
 -- a call of the catalogue came under a name that makes it
 abbrev pub CameAs : Option Method → Call → Type 0

@@ -5,3 +5,4 @@ pub mod Exceptions
 pub mod Replies
 pub mod Refusals
 pub mod Shapes
+pub mod Plans

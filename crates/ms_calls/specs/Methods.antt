@@ -1,5 +1,5 @@
 -- The calls that are known: their names, what they result in, and the exceptions that they declare.
-use Rattle.std.specs.Prelude.{⊤, ℕ, List, [], ◌∷◌, Option, None, Some, codes, if◌then◌else◌}
+use Rattle.std.specs.Prelude.{ℕ, List, [], ◌∷◌, Option, None, Some, codes, if◌then◌else◌}
 use Rattle.std.specs.Str.{bytes_eq}
 use Rattle.ms_calls.specs.declared.exception.Exception.{Exception}
 use Rattle.ms_calls.specs.declared.exception.Exception.TheVariants.{AlreadyExists, NoSuchObject, InvalidObject, InvalidOperation, Meta}
@@ -120,30 +120,3 @@ exceptions_of method.GetFields = Meta ∷ []
 exceptions_of method.GetSchema = Meta ∷ []
 exceptions_of method.GetNextNotification = Meta ∷ []
 exceptions_of method.GetCurrentNotificationEventId = Meta ∷ []
-
--- a call on databases
-abbrev pub IsOnDatabases : Option Method → Type 0
-IsOnDatabases (Some method.CreateDatabase) = ⊤
-IsOnDatabases (Some method.GetDatabase) = ⊤
-IsOnDatabases (Some method.DropDatabase) = ⊤
-IsOnDatabases (Some method.GetDatabases) = ⊤
-IsOnDatabases (Some method.GetAllDatabases) = ⊤
-IsOnDatabases (Some method.AlterDatabase) = ⊤
-IsOnDatabases other = ⊥
-
--- a call on tables
-abbrev pub IsOnTables : Option Method → Type 0
-IsOnTables (Some method.CreateTable) = ⊤
-IsOnTables (Some method.CreateTableWithEnvironmentContext) = ⊤
-IsOnTables (Some method.DropTable) = ⊤
-IsOnTables (Some method.DropTableWithEnvironmentContext) = ⊤
-IsOnTables (Some method.GetTables) = ⊤
-IsOnTables (Some method.GetAllTables) = ⊤
-IsOnTables (Some method.GetTable) = ⊤
-IsOnTables (Some method.GetTableReq) = ⊤
-IsOnTables (Some method.GetTableObjectsByName) = ⊤
-IsOnTables (Some method.AlterTable) = ⊤
-IsOnTables (Some method.AlterTableWithEnvironmentContext) = ⊤
-IsOnTables (Some method.GetFields) = ⊤
-IsOnTables (Some method.GetSchema) = ⊤
-IsOnTables other = ⊥

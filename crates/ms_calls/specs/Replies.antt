@@ -97,12 +97,15 @@ kind_of None = codes.reply_kind
 abbrev pub reply_kind : Reply → ℕ
 reply_kind (reply.Refused number text) = kind_of (general_code number)
 reply_kind reply.Nothing = codes.reply_kind
+reply_kind (reply.Flag flag) = codes.reply_kind
 reply_kind (reply.Number number) = codes.reply_kind
 reply_kind (reply.Big number) = codes.reply_kind
 reply_kind (reply.Names texts) = codes.reply_kind
+reply_kind (reply.Spec spec) = codes.reply_kind
 reply_kind (reply.Fields columns) = codes.reply_kind
 reply_kind (reply.Db name rec) = codes.reply_kind
 reply_kind (reply.Tables tables) = codes.reply_kind
+reply_kind (reply.Parts parts) = codes.reply_kind
 reply_kind (reply.Events events) = codes.reply_kind
 
 -- a reply repeats the message's name and sequence id

@@ -5,7 +5,8 @@ ghost use Rattle.hms_outside.specs.Causes.{Rose, StaysBut};
 ghost use Rattle.cat_types.specs.declared.replies.Reply.TheVariants.{Names};
 ghost use Rattle.ms_calls.specs.Arguments.{set_ugi_reply};
 ghost use Rattle.ms_calls.specs.Asked.{CameAs, IfClient, IfPlain, asked_by, asked_of, plain, server_name, text_at, texts_at};
-ghost use Rattle.ms_calls.specs.Methods.{IsOnDatabases, IsOnTables, method_named};
+ghost use Rattle.ms_calls.specs.Methods.{method_named};
+ghost use Rattle.ms_calls.specs.Plans.{bare_asked, planned, planned_on_database, planned_on_table};
 ghost use Rattle.ms_calls.specs.Replies.{CanReply};
 ghost use Rattle.ms_structs.specs.Getting.{ReadsTree};
 ghost use Rattle.thrift_binary.specs.Codes.{struct_code};
@@ -13,16 +14,17 @@ ghost use Rattle.thrift_binary.specs.Tree.{Struct};
 ghost use Rattle.thrift_binary.specs.Wire.{IsWire, StopsWire};
 
 use crate::arguments::read_call;
-use crate::databases::{AlterDatabase, CreateDatabase, DropDatabase, GetDatabase, GetDatabases};
+use crate::databases::{AlterDatabase, CreateDatabase, DropDatabase};
+use crate::of_texts::{OfText, OfTwoTexts};
+use crate::plan::{Bare, OnDatabase, OnTable, Plan, plan_of};
 use crate::server::{GetNextNotification, server_name, set_ugi};
 use crate::slots::{Shape, Two};
 use crate::tables::{
-    AlterTable, AlterTableWithEnvironmentContext, CreateTable, CreateTableWithEnvironmentContext,
-    DropTable, DropTableWithEnvironmentContext, GetAllTables, GetFields, GetSchema, GetTable,
-    GetTableObjectsByName, GetTableReq, GetTables,
+    AlterTable, AlterTableWithContext, CreateTable, CreateTableWithContext, DropTableWithContext,
+    GetTableObjectsByName, GetTableReq,
 };
 use crate::{Asked, Method, method_named};
-use cat_types::{Call, NoMemory, Reply, Text, Texts};
+use cat_types::{NoMemory, Reply, Text, Texts};
 use hms_outside::Source;
 use ms_structs::skip_field;
 use std::alloc::Global;
@@ -66,7 +68,7 @@ pub fn asked_by<S: Source>(
     read_asked(alloc, method, reader)
 }
 
-// Reads the arguments of a call.
+// Reads the arguments of a call by its plan.
 fn read_asked<S: Source>(
     alloc: Global,
     method: Option<Method>,
@@ -78,124 +80,105 @@ fn read_asked<S: Source>(
     ensures stays { StaysBut WireFault.ReadFault result (S.faults reader.old.source.now) (S.faults reader.new.source.now) }
     ensures reads { ReadsTree (S.left reader.old.source.now) (S.left reader.new.source.now) reader.old.progress reader.new.progress result (λ v. IsWire (Struct v) reader.old.progress.room struct_code) (λ v asked. asked ≡ asked_by method v) (StopsWire reader.old.progress.room struct_code) }
 {
-    match method {
-        None => skip_arguments(reader, Asked::Unknown),
-        Some(Method::GetName) => ask_server_name(alloc, reader),
-        Some(Method::GetStatus) => skip_arguments(reader, Asked::Plain(Reply::Number(2))),
-        Some(Method::Shutdown) => skip_arguments(reader, Asked::Shutdown),
-        Some(Method::SetUgi) => ask_set_ugi(alloc, reader),
-        Some(Method::GetAllFunctions) => skip_arguments(reader, Asked::Plain(Reply::Nothing)),
-        Some(
-            Method::CreateDatabase
-            | Method::GetDatabase
-            | Method::DropDatabase
-            | Method::GetDatabases
-            | Method::GetAllDatabases
-            | Method::AlterDatabase,
-        ) => read_database_call(alloc, method, reader),
-        Some(
-            Method::CreateTable
-            | Method::CreateTableWithEnvironmentContext
-            | Method::DropTable
-            | Method::DropTableWithEnvironmentContext
-            | Method::GetTables
-            | Method::GetAllTables
-            | Method::GetTable
-            | Method::GetTableReq
-            | Method::GetTableObjectsByName
-            | Method::AlterTable
-            | Method::AlterTableWithEnvironmentContext
-            | Method::GetFields
-            | Method::GetSchema,
-        ) => read_table_call(alloc, method, reader),
-        Some(Method::GetNextNotification) => read_call::<GetNextNotification, S>(alloc, reader),
-        Some(Method::GetCurrentNotificationEventId) => skip_arguments(
+    read_plan(alloc, plan_of(method), reader)
+}
+
+// Reads the arguments as this plan has it, and says what the message asks.
+fn read_plan<S: Source>(
+    alloc: Global,
+    plan: Plan,
+    reader: &mut WireReader<'_, S>,
+) -> Result<Asked, WireFault>
+    ensures same_source { reader.new.source.ghost_name ≡ reader.old.source.ghost_name }
+    ensures later { S.faults reader.old.source.now ≤ S.faults reader.new.source.now }
+    ensures cause { reader.old.progress.fault ≡ None → IsErrOf result WireFault.ReadFault → Rose (S.faults reader.old.source.now) (S.faults reader.new.source.now) }
+    ensures stays { StaysBut WireFault.ReadFault result (S.faults reader.old.source.now) (S.faults reader.new.source.now) }
+    ensures reads { ReadsTree (S.left reader.old.source.now) (S.left reader.new.source.now) reader.old.progress reader.new.progress result (λ v. IsWire (Struct v) reader.old.progress.room struct_code) (λ v asked. asked ≡ planned plan v) (StopsWire reader.old.progress.room struct_code) }
+{
+    match plan {
+        Plan::Bare(bare) => skip_arguments(bare, reader),
+        Plan::GetName => ask_server_name(alloc, reader),
+        Plan::SetUgi => ask_set_ugi(alloc, reader),
+        Plan::OfText(call) => read_call::<OfText, S>(alloc, call, reader),
+        Plan::OfTwoTexts(call) => read_call::<OfTwoTexts, S>(alloc, call, reader),
+        Plan::OnDatabase(call) => read_database_call(alloc, call, reader),
+        Plan::OnTable(call) => read_table_call(alloc, call, reader),
+        Plan::GetNextNotification => read_call::<GetNextNotification, S>(
+            alloc,
+            GetNextNotification,
             reader,
-            Asked::Client(Call::GetCurrentNotificationEventId),
         ),
     }
 }
 
-// Reads the arguments of a call on databases.
+// Reads the arguments of a call with a Database or with flags.
 fn read_database_call<S: Source>(
     alloc: Global,
-    method: Option<Method>,
+    call: OnDatabase,
     reader: &mut WireReader<'_, S>,
 ) -> Result<Asked, WireFault>
-    requires { IsOnDatabases method }
     ensures same_source { reader.new.source.ghost_name ≡ reader.old.source.ghost_name }
     ensures later { S.faults reader.old.source.now ≤ S.faults reader.new.source.now }
     ensures cause { reader.old.progress.fault ≡ None → IsErrOf result WireFault.ReadFault → Rose (S.faults reader.old.source.now) (S.faults reader.new.source.now) }
     ensures stays { StaysBut WireFault.ReadFault result (S.faults reader.old.source.now) (S.faults reader.new.source.now) }
-    ensures reads { ReadsTree (S.left reader.old.source.now) (S.left reader.new.source.now) reader.old.progress reader.new.progress result (λ v. IsWire (Struct v) reader.old.progress.room struct_code) (λ v asked. asked ≡ asked_by method v) (StopsWire reader.old.progress.room struct_code) }
+    ensures reads { ReadsTree (S.left reader.old.source.now) (S.left reader.new.source.now) reader.old.progress reader.new.progress result (λ v. IsWire (Struct v) reader.old.progress.room struct_code) (λ v asked. asked ≡ planned_on_database call v) (StopsWire reader.old.progress.room struct_code) }
 {
-    match method {
-        Some(Method::CreateDatabase) => read_call::<CreateDatabase, S>(alloc, reader),
-        Some(Method::GetDatabase) => read_call::<GetDatabase, S>(alloc, reader),
-        Some(Method::DropDatabase) => read_call::<DropDatabase, S>(alloc, reader),
-        Some(Method::GetDatabases) => read_call::<GetDatabases, S>(alloc, reader),
-        Some(Method::GetAllDatabases) => skip_arguments(
-            reader,
-            Asked::Client(Call::GetAllDatabases),
-        ),
-        Some(Method::AlterDatabase) => read_call::<AlterDatabase, S>(alloc, reader),
-        _ => unreachable!(),
+    match call {
+        OnDatabase::CreateDatabase => read_call::<CreateDatabase, S>(alloc, CreateDatabase, reader),
+        OnDatabase::DropDatabase => read_call::<DropDatabase, S>(alloc, DropDatabase, reader),
+        OnDatabase::AlterDatabase => read_call::<AlterDatabase, S>(alloc, AlterDatabase, reader),
     }
 }
 
-// Reads the arguments of a call on tables.
+// Reads the arguments of a call with a Table, a request, a list of tables or a context.
 fn read_table_call<S: Source>(
     alloc: Global,
-    method: Option<Method>,
+    call: OnTable,
     reader: &mut WireReader<'_, S>,
 ) -> Result<Asked, WireFault>
-    requires { IsOnTables method }
     ensures same_source { reader.new.source.ghost_name ≡ reader.old.source.ghost_name }
     ensures later { S.faults reader.old.source.now ≤ S.faults reader.new.source.now }
     ensures cause { reader.old.progress.fault ≡ None → IsErrOf result WireFault.ReadFault → Rose (S.faults reader.old.source.now) (S.faults reader.new.source.now) }
     ensures stays { StaysBut WireFault.ReadFault result (S.faults reader.old.source.now) (S.faults reader.new.source.now) }
-    ensures reads { ReadsTree (S.left reader.old.source.now) (S.left reader.new.source.now) reader.old.progress reader.new.progress result (λ v. IsWire (Struct v) reader.old.progress.room struct_code) (λ v asked. asked ≡ asked_by method v) (StopsWire reader.old.progress.room struct_code) }
+    ensures reads { ReadsTree (S.left reader.old.source.now) (S.left reader.new.source.now) reader.old.progress reader.new.progress result (λ v. IsWire (Struct v) reader.old.progress.room struct_code) (λ v asked. asked ≡ planned_on_table call v) (StopsWire reader.old.progress.room struct_code) }
 {
-    match method {
-        Some(Method::CreateTable) => read_call::<CreateTable, S>(alloc, reader),
-        Some(Method::CreateTableWithEnvironmentContext) => read_call::<
-            CreateTableWithEnvironmentContext,
-            S,
-        >(alloc, reader),
-        Some(Method::DropTable) => read_call::<DropTable, S>(alloc, reader),
-        Some(Method::DropTableWithEnvironmentContext) => read_call::<
-            DropTableWithEnvironmentContext,
-            S,
-        >(alloc, reader),
-        Some(Method::GetTables) => read_call::<GetTables, S>(alloc, reader),
-        Some(Method::GetAllTables) => read_call::<GetAllTables, S>(alloc, reader),
-        Some(Method::GetTable) => read_call::<GetTable, S>(alloc, reader),
-        Some(Method::GetTableReq) => read_call::<GetTableReq, S>(alloc, reader),
-        Some(Method::GetTableObjectsByName) => read_call::<GetTableObjectsByName, S>(alloc, reader),
-        Some(Method::AlterTable) => read_call::<AlterTable, S>(alloc, reader),
-        Some(Method::AlterTableWithEnvironmentContext) => read_call::<
-            AlterTableWithEnvironmentContext,
-            S,
-        >(alloc, reader),
-        Some(Method::GetFields) => read_call::<GetFields, S>(alloc, reader),
-        Some(Method::GetSchema) => read_call::<GetSchema, S>(alloc, reader),
-        _ => unreachable!(),
+    match call {
+        OnTable::CreateTable => read_call::<CreateTable, S>(alloc, CreateTable, reader),
+        OnTable::CreateTableWithContext => read_call::<CreateTableWithContext, S>(
+            alloc,
+            CreateTableWithContext,
+            reader,
+        ),
+        OnTable::DropTableWithContext => read_call::<DropTableWithContext, S>(
+            alloc,
+            DropTableWithContext,
+            reader,
+        ),
+        OnTable::GetTableReq => read_call::<GetTableReq, S>(alloc, GetTableReq, reader),
+        OnTable::GetTableObjectsByName => read_call::<GetTableObjectsByName, S>(
+            alloc,
+            GetTableObjectsByName,
+            reader,
+        ),
+        OnTable::AlterTable => read_call::<AlterTable, S>(alloc, AlterTable, reader),
+        OnTable::AlterTableWithContext => read_call::<AlterTableWithContext, S>(
+            alloc,
+            AlterTableWithContext,
+            reader,
+        ),
     }
 }
 
-// Skips the argument struct of a call that asks for this whatever its arguments are.
-fn skip_arguments<S: Source>(
-    reader: &mut WireReader<'_, S>,
-    asked: Asked,
-) -> Result<Asked, WireFault>
+// Skips the argument struct of a message that asks for the same whatever its arguments are.
+fn skip_arguments<S: Source>(bare: Bare, reader: &mut WireReader<'_, S>) -> Result<Asked, WireFault>
     ensures same_source { reader.new.source.ghost_name ≡ reader.old.source.ghost_name }
     ensures later { S.faults reader.old.source.now ≤ S.faults reader.new.source.now }
     ensures cause { reader.old.progress.fault ≡ None → IsErrOf result WireFault.ReadFault → Rose (S.faults reader.old.source.now) (S.faults reader.new.source.now) }
     ensures stays { StaysBut WireFault.ReadFault result (S.faults reader.old.source.now) (S.faults reader.new.source.now) }
-    ensures reads { ReadsTree (S.left reader.old.source.now) (S.left reader.new.source.now) reader.old.progress reader.new.progress result (λ v. IsWire (Struct v) reader.old.progress.room struct_code) (λ _ it. it ≡ asked) (StopsWire reader.old.progress.room struct_code) }
+    ensures reads { ReadsTree (S.left reader.old.source.now) (S.left reader.new.source.now) reader.old.progress reader.new.progress result (λ v. IsWire (Struct v) reader.old.progress.room struct_code) (λ _ asked. asked ≡ bare_asked bare) (StopsWire reader.old.progress.room struct_code) }
 {
     skip_field(reader, type_code::STRUCT)?;
-    Ok(asked)
+    Ok(bare.asked())
 }
 
 // Skips the argument struct of the call that asks for the server's name.

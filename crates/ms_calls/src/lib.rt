@@ -7,6 +7,8 @@ mod databases;
 mod exception;
 mod laws;
 mod method;
+mod of_texts;
+mod plan;
 mod refusals;
 mod reply;
 mod request;

@@ -74,8 +74,9 @@ fn reply_kind(reply: &Reply) -> u8
             Some(_) => message_kind::EXCEPTION,
             None => message_kind::REPLY,
         },
-        Reply::Nothing | Reply::Number(_) | Reply::Big(_) | Reply::Names(_) => message_kind::REPLY,
-        Reply::Fields(_) | Reply::Db(_, _) | Reply::Tables(_) => message_kind::REPLY,
+        Reply::Nothing | Reply::Flag(_) | Reply::Number(_) | Reply::Big(_) => message_kind::REPLY,
+        Reply::Names(_) | Reply::Spec(_) | Reply::Fields(_) => message_kind::REPLY,
+        Reply::Db(_, _) | Reply::Tables(_) | Reply::Parts(_) => message_kind::REPLY,
         Reply::Events(_) => message_kind::REPLY,
     }
 }

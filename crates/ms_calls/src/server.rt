@@ -37,14 +37,15 @@ pub fn set_ugi(alloc: Global, user: Got<Text>, groups: Got<Texts>) -> Result<Ask
 }
 
 /// `get_next_notification`: the request.
+#[derive(Clone, Copy)]
 pub struct GetNextNotification;
 
 impl Ask for GetNextNotification {
     type Slots = One<NotificationRequest>;
 
-    ghost makes = { λ slots. get_next_notification_call slots.first };
+    ghost makes = { λ _ slots. get_next_notification_call slots.first };
 
-    fn make(slots: One<NotificationRequest>) -> Result<Call, i16> {
+    fn make(self, slots: One<NotificationRequest>) -> Result<Call, i16> {
         let NotificationRequest { last, max } = needed(1, slots.first)?;
         Ok(Call::GetNextNotification { last, max })
     }

@@ -4,4 +4,4 @@ use Rattle.ms_calls.specs.Asked.{client}
 use Rattle.ms_calls.proofs.arguments.read_call.Goals as goal
 
 pub returns-clause-reads : goal.returns-clause-reads
-returns-clause-reads g c = Took-weaker _ _ _ _ _ _ (λ bytes h. (h.0, h.1, c.client.ensures ∙ ap client (c.make.ensures ∙ ap g.C.Ask.makes h.2))) c.in_ok-slots.ensures.reads
+returns-clause-reads g c = Took-weaker _ _ _ _ _ _ (λ bytes h. (h.0, h.1, c.client.ensures ∙ ap client (c.make.ensures ∙ ap (g.C.Ask.makes c.args.call) h.2))) c.in_ok-slots.ensures.reads

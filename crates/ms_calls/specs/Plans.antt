@@ -1,0 +1,58 @@
+-- What is read by each plan: the arguments of its shape, and what is made of them.
+use Rattle.std.specs.Prelude.{[], ◌∷◌, pos}
+use Rattle.cat_types.specs.declared.calls.Call.TheVariants.{GetAllDatabases, GetCurrentNotificationEventId}
+use Rattle.cat_types.specs.declared.replies.Reply.TheVariants.{Names, Nothing, Number}
+use Rattle.ms_calls.specs.Arguments.{alter_database_call, alter_table_call, call_of_text, call_of_two_texts, create_database_call, create_table_call, drop_database_call, drop_table_call, from_one, from_two, get_next_notification_call, get_table_objects_by_name_call, get_table_req_call, set_ugi_reply}
+use Rattle.ms_calls.specs.Asked.{client, context_at, database_at, flag_at, plain, server_name, table_at, text_at, texts_at}
+use Rattle.ms_calls.specs.declared.plan.Bare.{Bare}
+use Rattle.ms_calls.specs.declared.plan.Bare.TheVariants as bare
+use Rattle.ms_calls.specs.declared.plan.OnDatabase.{OnDatabase}
+use Rattle.ms_calls.specs.declared.plan.OnDatabase.TheVariants as on_database
+use Rattle.ms_calls.specs.declared.plan.OnTable.{OnTable}
+use Rattle.ms_calls.specs.declared.plan.OnTable.TheVariants as on_table
+use Rattle.ms_calls.specs.declared.plan.Plan.{Plan}
+use Rattle.ms_calls.specs.declared.plan.Plan.TheVariants as plan
+use Rattle.ms_calls.specs.declared.request.Asked.{Asked}
+use Rattle.ms_calls.specs.declared.request.Asked.TheVariants.{Client, Plain, Shutdown, Unknown}
+use Rattle.ms_structs.specs.declared.got.Got.TheVariants as got
+use Rattle.ms_structs.specs.Notifications.{request_of as poll_of}
+use Rattle.ms_structs.specs.Slots.{said}
+use Rattle.table_structs.specs.Requests.{request_of}
+use Rattle.thrift_binary.specs.Codes.{struct_code}
+use Rattle.thrift_binary.specs.Tree.{Fields}
+
+-- what is asked whatever the arguments are
+abbrev pub bare_asked : Bare → Asked
+bare_asked bare.Unknown = Unknown
+bare_asked bare.GetStatus = Plain (Number (pos 2))
+bare_asked bare.Shutdown = Shutdown
+bare_asked bare.GetAllFunctions = Plain Nothing
+bare_asked bare.GetAllDatabases = Client GetAllDatabases
+bare_asked bare.GetCurrentNotificationEventId = Client GetCurrentNotificationEventId
+
+-- what a call on databases asks, with arguments of a shape of its own
+abbrev pub planned_on_database : OnDatabase → Fields → Asked
+planned_on_database on_database.CreateDatabase v = client (create_database_call (database_at (pos 1) v))
+planned_on_database on_database.DropDatabase v = client (drop_database_call (text_at (pos 1) v) (flag_at (pos 3) v))
+planned_on_database on_database.AlterDatabase v = client (alter_database_call (text_at (pos 1) v) (database_at (pos 2) v))
+
+-- what a call on tables asks, with arguments of a shape of its own
+abbrev pub planned_on_table : OnTable → Fields → Asked
+planned_on_table on_table.CreateTable v = client (create_table_call (table_at (pos 1) v) got.Nothing)
+planned_on_table on_table.CreateTableWithContext v = client (create_table_call (table_at (pos 1) v) (context_at (pos 2) v))
+planned_on_table on_table.DropTableWithContext v = client (drop_table_call (text_at (pos 1) v) (text_at (pos 2) v) (context_at (pos 4) v))
+planned_on_table on_table.GetTableReq v = client (get_table_req_call (said (pos 1) struct_code request_of v))
+planned_on_table on_table.GetTableObjectsByName v = client (get_table_objects_by_name_call (text_at (pos 1) v) (texts_at (pos 2) v))
+planned_on_table on_table.AlterTable v = client (alter_table_call (text_at (pos 1) v) (text_at (pos 2) v) (table_at (pos 3) v) got.Nothing)
+planned_on_table on_table.AlterTableWithContext v = client (alter_table_call (text_at (pos 1) v) (text_at (pos 2) v) (table_at (pos 3) v) (context_at (pos 4) v))
+
+-- what a call asks whose arguments are read by this plan
+abbrev pub planned : Plan → Fields → Asked
+planned (plan.Bare bare) v = bare_asked bare
+planned plan.GetName v = Plain (Names (server_name ∷ []))
+planned plan.SetUgi v = plain (set_ugi_reply (text_at (pos 1) v) (texts_at (pos 2) v))
+planned (plan.OfText call) v = client (from_one (text_at (pos 1) v) (call_of_text call))
+planned (plan.OfTwoTexts call) v = client (from_two (text_at (pos 1) v) (text_at (pos 2) v) (call_of_two_texts call))
+planned (plan.OnDatabase call) v = planned_on_database call v
+planned (plan.OnTable call) v = planned_on_table call v
+planned plan.GetNextNotification v = client (get_next_notification_call (said (pos 1) struct_code poll_of v))
