@@ -12,36 +12,37 @@ both : (a b : Bool) → (a && b) ≡ true → (a ≡ true) × (b ≡ true)
 both true b is = (refl, is)
 both false b is = absurd cc
 
+-- one byte more, by whether it is 0
+tested_by : (x : ℕ) (b : Bool) → (((x == 0) ≡ true) × (x ≡ 0)) ⊎ (((x == 0) ≡ false) × (x ≢ 0)) → x ≢ 0 → b ≡ true → (not (x == 0) && b) ≡ true
+tested_by x b (inl is) other rest = absurd (other is.1)
+tested_by x b (inr is) other rest = λ i. not (is.0 i) && rest i
+
 tested : (xs : List ℕ) → AllByRecursion (λ byte. byte ≢ 0) xs → list_all (λ byte. not (byte == 0)) xs ≡ true
 tested [] h = refl
-tested (x ∷ xs) h = by_test (eqb_tells x 0)
-  where
-    by_test : (((x == 0) ≡ true) × (x ≡ 0)) ⊎ (((x == 0) ≡ false) × (x ≢ 0)) → list_all (λ byte. not (byte == 0)) (x ∷ xs) ≡ true
-    by_test (inl is) = absurd (h.0 is.1)
-    by_test (inr is) = λ i. not (is.0 i) && tested xs h.1 i
+tested (x ∷ xs) h = tested_by x (list_all (λ byte. not (byte == 0)) xs) (eqb_tells x 0) h.0 (tested xs h.1)
+
+found_by : (x : ℕ) → not (x == 0) ≡ true → (((x == 0) ≡ true) × (x ≡ 0)) ⊎ (((x == 0) ≡ false) × (x ≢ 0)) → x ≢ 0
+found_by x other (inl is) = absurd (false≢true (sym (λ i. not (is.0 i)) ∙ other))
+found_by x other (inr is) = is.1
 
 found : (xs : List ℕ) → list_all (λ byte. not (byte == 0)) xs ≡ true → AllByRecursion (λ byte. byte ≢ 0) xs
 found [] h = tt
 found (x ∷ xs) h =
     let each = both (not (x == 0)) (list_all (λ byte. not (byte == 0)) xs) h in
-    (by_test each.0 (eqb_tells x 0), found xs each.1)
-  where
-    by_test : not (x == 0) ≡ true → (((x == 0) ≡ true) × (x ≡ 0)) ⊎ (((x == 0) ≡ false) × (x ≢ 0)) → x ≢ 0
-    by_test no (inl is) = absurd (false≢true (sym (λ i. not (is.0 i)) ∙ no))
-    by_test no (inr is) = is.1
+    (found_by x each.0 (eqb_tells x 0), found xs each.1)
 
 valid_from : (v : List ℕ) → is_valid_value v ≡ true → IsValidValue v
 valid_from v h =
     let each = both (nat_le (length v) 4000) (list_all (λ byte. not (byte == 0)) v) h in
     (leb-true (length v) 4000 each.0, All-from_recursion (λ byte. byte ≢ 0) v (found v each.1))
 
+invalid_by : (v : List ℕ) (b : Bool) → (IsValidValue v → false ≡ true) → is_valid_value v ≡ b → false ≡ b
+invalid_by v true only is = absurd (false≢true (only (valid_from v is)))
+invalid_by v false only is = refl
+
 -- a test that tells valid values is this one
 pub valid : (r : Bool) (v : List ℕ) → (r ≡ true → IsValidValue v) → (IsValidValue v → r ≡ true) → r ≡ is_valid_value v
-valid true v yes no =
-    let is = yes refl in
+valid true v told only =
+    let is = told refl in
     sym (λ i. le-leb (length v) 4000 is.0 i && tested v (recursion_from_All (λ byte. byte ≢ 0) v is.1) i)
-valid false v yes no = by_test (is_valid_value v) refl
-  where
-    by_test : (b : Bool) → is_valid_value v ≡ b → false ≡ b
-    by_test true is = absurd (false≢true (no (valid_from v is)))
-    by_test false is = refl
+valid false v told only = invalid_by v (is_valid_value v) only refl

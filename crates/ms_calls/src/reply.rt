@@ -1,6 +1,7 @@
 //! Replies to messages.
 
-ghost use Rattle.std.specs.Prelude.{◌≡◌, ◌==◌, IfOk, IsSome, map, option_copied, pos};
+ghost use Rattle.std.specs.Prelude.{◌≡◌, ◌==◌, IfOk, IsSome, map, pos};
+ghost use Rattle.std.specs.Option.{option_copied};
 ghost use Rattle.thrift_binary.specs.Codes.{list_code, map_code, oneway_kind, struct_code};
 ghost use Rattle.thrift_binary.specs.Sending.{Gathers};
 ghost use Rattle.thrift_binary.specs.Strict.{fields_bytes, message_bytes, wire_bytes};

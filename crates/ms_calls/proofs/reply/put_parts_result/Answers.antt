@@ -1,4 +1,4 @@
-use Rattle.std.specs.Prelude.{option_copied}
+use Rattle.std.specs.Option.{option_copied}
 use Rattle.table_structs.specs.PartRequests.{partitions_result}
 use Rattle.ms_calls.proofs.UnderZero.{tree_written}
 use Rattle.ms_calls.proofs.reply.put_parts_result.Goals as goal
