@@ -26,7 +26,6 @@ use Rattle.catalogue.specs.Refusals.{refusal_reply}
 use Rattle.catalogue.specs.Rules.{breaks, change, first_broken, first_refusal, lacks_number, requested_table, result_of, rules_of}
 use Rattle.catalogue.specs.Tables.{columns_as, get_table_req_rules, names_database, names_table, schema_as, table_as}
 use Rattle.catalogue.specs.declared.bars.Bars.{Bars}
-use Rattle.catalogue.specs.declared.part_adds.Told.TheVariants as told
 use Rattle.catalogue.specs.declared.poll.Poll.{Poll}
 use Rattle.catalogue.specs.declared.refusal.Refusal.{Refusal}
 use Rattle.catalogue.specs.declared.refusal.Refusal.TheVariants.{AlreadyExists, EventNumbersUsedUp, InvalidObject, InvalidOperation, InvalidRequest, IsReplica, NoSuchObject}
@@ -152,7 +151,7 @@ one_alone db name values rec true free = absurd (false≢true (sym free))
 one_alone db name values rec false free = refl
 
 -- the one partition that was added, where no rule of adding it is broken
-added_alone : (cat : Catalogue) (bars : Bars) (part : PartArg) (moment : ℕ) → first_broken (add_list_rules true false cat bars part.db part.table (part ∷ [])) ≡ None → IsSome (result_fields of.OnePart (list_told told.All cat part.db part.table (part ∷ []) moment))
+added_alone : (cat : Catalogue) (bars : Bars) (part : PartArg) (moment : ℕ) → first_broken (add_list_rules true false cat bars part.db part.table (part ∷ [])) ≡ None → IsSome (result_fields of.OnePart (list_told (told_if true) cat part.db part.table (part ∷ []) moment))
 added_alone cat bars part moment fine =
     let db = kept_name part.db in
     let name = kept_name part.table in
