@@ -217,7 +217,7 @@ tells_added m needs passes held db name earlier (new ∷ more) object exists =
 
 tells_altered : (m : Method) (held : Option HeldTable) (earlier : List (List (List ℕ))) (parts : List PartArg) → tells m InvalidOperation ≡ true → tells_all m (each_altered_rules held earlier parts) ≡ true
 tells_altered m held earlier [] operation = refl
-tells_altered m held earlier (new ∷ more) operation = λ i. operation i && (operation i && tells_altered m held (earlier ++ stored_values new.values ∷ []) more operation i)
+tells_altered m held earlier (new ∷ more) operation = λ i. operation i && (operation i && (operation i && tells_altered m held (earlier ++ stored_values new.values ∷ []) more operation i))
 
 -- partitions without a table of their own
 tells_many : (cat : Catalogue) (bars : Bars) (parts : List PartArg) → tells_all method.AddPartitions (add_partitions_rules cat bars parts) ≡ true
