@@ -77,6 +77,30 @@ struct Table {
   12: optional string tableType
 }
 
+/** A partition: the values of its table's keys, and what is kept of it. */
+struct Partition {
+  1: list<string> values,
+  2: string dbName,
+  3: string tableName,
+  4: i32 createTime,
+  5: i32 lastAccessTime,
+  6: StorageDescriptor sd,
+  7: map<string, string> parameters
+}
+
+/** An absent ifNotExists is false, an absent needResult true. */
+struct AddPartitionsRequest {
+  1: string dbName,
+  2: string tblName,
+  3: list<Partition> parts,
+  4: bool ifNotExists,
+  5: optional bool needResult = true
+}
+
+struct AddPartitionsResult {
+  1: optional list<Partition> partitions
+}
+
 /** Read, and not used. */
 struct EnvironmentContext {
   1: map<string, string> properties
@@ -219,6 +243,86 @@ service ThriftHiveMetastore {
 
   /** The columns of a table, and behind them its keys. */
   list<FieldSchema> get_schema(1: string db_name, 2: string table_name)
+    throws (1: MetaException o1),
+
+  Partition add_partition(1: Partition new_part)
+    throws (1: InvalidObjectException o1, 2: AlreadyExistsException o2, 3: MetaException o3),
+
+  Partition add_partition_with_environment_context(1: Partition new_part,
+      2: EnvironmentContext environment_context)
+    throws (1: InvalidObjectException o1, 2: AlreadyExistsException o2, 3: MetaException o3),
+
+  /** All of them to one table; how many were added. */
+  i32 add_partitions(1: list<Partition> new_parts)
+    throws (1: InvalidObjectException o1, 2: AlreadyExistsException o2, 3: MetaException o3),
+
+  AddPartitionsResult add_partitions_req(1: AddPartitionsRequest request)
+    throws (1: InvalidObjectException o1, 2: AlreadyExistsException o2, 3: MetaException o3),
+
+  Partition append_partition(1: string db_name, 2: string tbl_name, 3: list<string> part_vals)
+    throws (1: InvalidObjectException o1, 2: AlreadyExistsException o2, 3: MetaException o3),
+
+  Partition append_partition_by_name(1: string db_name, 2: string tbl_name, 3: string part_name)
+    throws (1: InvalidObjectException o1, 2: AlreadyExistsException o2, 3: MetaException o3),
+
+  /** No files are touched. */
+  bool drop_partition(1: string db_name, 2: string tbl_name, 3: list<string> part_vals, 4: bool deleteData)
+    throws (1: NoSuchObjectException o1, 2: MetaException o2),
+
+  bool drop_partition_with_environment_context(1: string db_name, 2: string tbl_name, 3: list<string> part_vals,
+      4: bool deleteData, 5: EnvironmentContext environment_context)
+    throws (1: NoSuchObjectException o1, 2: MetaException o2),
+
+  bool drop_partition_by_name(1: string db_name, 2: string tbl_name, 3: string part_name, 4: bool deleteData)
+    throws (1: NoSuchObjectException o1, 2: MetaException o2),
+
+  Partition get_partition(1: string db_name, 2: string tbl_name, 3: list<string> part_vals)
+    throws (1: MetaException o1, 2: NoSuchObjectException o2),
+
+  Partition get_partition_by_name(1: string db_name, 2: string tbl_name, 3: string part_name)
+    throws (1: MetaException o1, 2: NoSuchObjectException o2),
+
+  /** The first ones; all where max_parts is negative. */
+  list<Partition> get_partitions(1: string db_name, 2: string tbl_name, 3: i16 max_parts = -1)
+    throws (1: NoSuchObjectException o1, 2: MetaException o2),
+
+  list<string> get_partition_names(1: string db_name, 2: string tbl_name, 3: i16 max_parts = -1)
+    throws (1: NoSuchObjectException o1, 2: MetaException o2),
+
+  /** Those whose values begin so; an empty text stands for any value. */
+  list<Partition> get_partitions_ps(1: string db_name, 2: string tbl_name, 3: list<string> part_vals,
+      4: i16 max_parts = -1)
+    throws (1: MetaException o1, 2: NoSuchObjectException o2),
+
+  list<string> get_partition_names_ps(1: string db_name, 2: string tbl_name, 3: list<string> part_vals,
+      4: i16 max_parts = -1)
+    throws (1: MetaException o1, 2: NoSuchObjectException o2),
+
+  /** Those that there are, each once. */
+  list<Partition> get_partitions_by_names(1: string db_name, 2: string tbl_name, 3: list<string> names)
+    throws (1: MetaException o1, 2: NoSuchObjectException o2),
+
+  void alter_partition(1: string db_name, 2: string tbl_name, 3: Partition new_part)
+    throws (1: InvalidOperationException o1, 2: MetaException o2),
+
+  void alter_partition_with_environment_context(1: string db_name, 2: string tbl_name, 3: Partition new_part,
+      4: EnvironmentContext environment_context)
+    throws (1: InvalidOperationException o1, 2: MetaException o2),
+
+  void alter_partitions(1: string db_name, 2: string tbl_name, 3: list<Partition> new_parts)
+    throws (1: InvalidOperationException o1, 2: MetaException o2),
+
+  void rename_partition(1: string db_name, 2: string tbl_name, 3: list<string> part_vals, 4: Partition new_part)
+    throws (1: InvalidOperationException o1, 2: MetaException o2),
+
+  /** Whether all values are valid. */
+  bool partition_name_has_valid_characters(1: list<string> part_vals, 2: bool throw_exception)
+    throws (1: MetaException o1),
+
+  list<string> partition_name_to_vals(1: string part_name)
+    throws (1: MetaException o1),
+
+  map<string, string> partition_name_to_spec(1: string part_name)
     throws (1: MetaException o1),
 
   NotificationEventResponse get_next_notification(1: NotificationEventRequest rqst)

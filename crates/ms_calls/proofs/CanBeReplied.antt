@@ -1,9 +1,16 @@
 -- What a message asks fits its name.
-use Rattle.std.proofs.Common.{◌≡◌, ℕ, Bool, pos, List, Option, Some, None, Result, Ok, Err, refl, sym, subst, inl, inr}
-use Rattle.std.specs.Prelude.{IfOk, ⊤}
-use Rattle.cat_types.specs.declared.arguments.TableArg.{TableArg}
+use Rattle.std.proofs.Common.{◌≡◌, ℕ, Bool, true, false, ℤ, pos, List, Option, Some, None, Result, Ok, Err, refl, sym, subst, inl, inr}
+use Rattle.std.specs.Prelude.{IfOk, ⊤, if◌then◌else◌}
+use Rattle.std.specs.List.{list_all}
+use Rattle.cat_types.specs.declared.arguments.PartArg.{PartArg}
 use Rattle.cat_types.specs.declared.calls.Call.{Call}
-use Rattle.cat_types.specs.declared.calls.Call.TheVariants.{AlterDatabase, AlterTable, CreateDatabase, CreateTable, DropTable, GetAllTables, GetDatabase, GetDatabases, GetFields, GetNextNotification, GetSchema, GetTable, GetTableObjectsByName, GetTableReq, GetTables}
+use Rattle.cat_types.specs.declared.calls.Call.TheVariants.{AddPartition, AddPartitions, AlterDatabase, AlterPartition, AlterPartitions, AlterTable, AppendPartition, AppendPartitionByName, CreateDatabase, CreateTable, DropPartition, DropPartitionByName, DropTable, GetAllTables, GetDatabase, GetDatabases, GetFields, GetNextNotification, GetPartition, GetPartitionByName, GetPartitionNames, GetPartitionNamesPs, GetPartitions, GetPartitionsByNames, GetPartitionsPs, GetSchema, GetTable, GetTableObjectsByName, GetTableReq, GetTables, RenamePartition}
+use Rattle.cat_types.specs.declared.replies.Reply.TheVariants.{Flag, Names, Spec}
+use Rattle.part_names.specs.Reading.{first_unreadable, spec, vals}
+use Rattle.ms_calls.specs.declared.part_texts.OfName.{OfName}
+use Rattle.ms_calls.specs.declared.part_texts.OfName.TheVariants as of_name
+use Rattle.ms_calls.specs.Refusals.{invalid_request}
+use Rattle.ms_calls.proofs.Adding.{IfIs, is_request}
 use Rattle.ms_structs.specs.declared.got.Got.{Got}
 use Rattle.ms_structs.specs.declared.got.Got.TheVariants.{Nothing, BadText, Is}
 use Rattle.ms_structs.specs.Getting.{ReadsTree}
@@ -15,11 +22,12 @@ use Rattle.thrift_binary.specs.Wire.{IsWire}
 use Rattle.ms_calls.specs.declared.method.Method.{Method}
 use Rattle.ms_calls.specs.declared.method.Method.TheVariants as method
 use Rattle.ms_calls.specs.declared.request.Asked.{Asked}
-use Rattle.ms_calls.specs.Arguments.{alter_table_call, create_table_call, drop_database_call, drop_table_call, from_one, from_two, set_ugi_reply}
-use Rattle.ms_calls.specs.Asked.{CameAs, IfClient, IfPlain, IsMethodOf, asked_by, client, context_at, database_at, flag_at, plain, table_at, text_at, texts_at}
+use Rattle.ms_calls.specs.Arguments.{add_partitions_req_call, and_then, drop_database_call, from_one, from_three, from_two, given, has_valid_characters_reply, is_valid_value, list_call, name_reply, needed, needed_three, no_limit, set_ugi_reply, spec_reply, unless_unreadable, vals_reply, with_context}
+use Rattle.ms_calls.specs.Asked.{CameAs, IfClient, IfPlain, IsMethodOf, asked_by, client, context_at, database_at, flag_at, limit_at, name_asked, partition_at, partitions_at, plain, table_at, text_at, texts_at}
 use Rattle.ms_structs.specs.Notifications.{request_of as poll_of}
 use Rattle.ms_structs.specs.Slots.{said}
 use Rattle.ms_structs.specs.declared.notification_request.NotificationRequest.{NotificationRequest}
+use Rattle.table_structs.specs.PartRequests.{adding_of}
 use Rattle.table_structs.specs.Requests.{request_of}
 use Rattle.table_structs.specs.declared.requests.TableRequest.{TableRequest}
 use Rattle.thrift_binary.specs.Codes.{struct_code}
@@ -49,32 +57,82 @@ drop_database_fits (Is name) Nothing = (tt, refl)
 drop_database_fits (Is name) BadText = (tt, tt)
 drop_database_fits (Is name) (Is cascade) = (tt, refl)
 
-create_table_fits : (m : Method) (table : Got TableArg) (context : Got ⊤) → ((new : TableArg) → IsMethodOf (CreateTable new) m) → Fits (Some m) (client (create_table_call table context))
-create_table_fits m Nothing context is = (tt, tt)
-create_table_fits m BadText context is = (tt, tt)
-create_table_fits m (Is new) Nothing is = (tt, is new)
-create_table_fits m (Is new) BadText is = (tt, tt)
-create_table_fits m (Is new) (Is context) is = (tt, is new)
+-- what three of them make
+three_fits : {A B C : Type 0} (m : Method) (make : A → B → C → Call) (first : Got A) (second : Got B) (third : Got C) → ((a : A) (b : B) (c : C) → IsMethodOf (make a b c) m) → Fits (Some m) (client (from_three first second third make))
+three_fits m make Nothing second third is = (tt, tt)
+three_fits m make BadText second third is = (tt, tt)
+three_fits m make (Is a) Nothing third is = (tt, tt)
+three_fits m make (Is a) BadText third is = (tt, tt)
+three_fits m make (Is a) (Is b) Nothing is = (tt, tt)
+three_fits m make (Is a) (Is b) BadText is = (tt, tt)
+three_fits m make (Is a) (Is b) (Is c) is = (tt, is a b c)
 
-drop_table_fits : (m : Method) (db table : Got (List ℕ)) (context : Got ⊤) → ((a b : List ℕ) → IsMethodOf (DropTable a b) m) → Fits (Some m) (client (drop_table_call db table context))
-drop_table_fits m Nothing table context is = (tt, tt)
-drop_table_fits m BadText table context is = (tt, tt)
-drop_table_fits m (Is a) Nothing context is = (tt, tt)
-drop_table_fits m (Is a) BadText context is = (tt, tt)
-drop_table_fits m (Is a) (Is b) Nothing is = (tt, is a b)
-drop_table_fits m (Is a) (Is b) BadText is = (tt, tt)
-drop_table_fits m (Is a) (Is b) (Is context) is = (tt, is a b)
+-- what is made and has a context beside it
+context_fits : (m : Method) (id : ℤ) (context : Got ⊤) (made : Result Call ℤ) → Fits (Some m) (client made) → Fits (Some m) (client (with_context id context made))
+context_fits m id context (Err wrong) fits = (tt, tt)
+context_fits m id Nothing (Ok call) fits = fits
+context_fits m id BadText (Ok call) fits = (tt, tt)
+context_fits m id (Is context) (Ok call) fits = fits
 
-alter_table_fits : (m : Method) (db table : Got (List ℕ)) (new : Got TableArg) (context : Got ⊤) → ((a b : List ℕ) (c : TableArg) → IsMethodOf (AlterTable a b c) m) → Fits (Some m) (client (alter_table_call db table new context))
-alter_table_fits m Nothing table new context is = (tt, tt)
-alter_table_fits m BadText table new context is = (tt, tt)
-alter_table_fits m (Is a) Nothing new context is = (tt, tt)
-alter_table_fits m (Is a) BadText new context is = (tt, tt)
-alter_table_fits m (Is a) (Is b) Nothing context is = (tt, tt)
-alter_table_fits m (Is a) (Is b) BadText context is = (tt, tt)
-alter_table_fits m (Is a) (Is b) (Is c) Nothing is = (tt, is a b c)
-alter_table_fits m (Is a) (Is b) (Is c) BadText is = (tt, tt)
-alter_table_fits m (Is a) (Is b) (Is c) (Is context) is = (tt, is a b c)
+-- what a limit makes beside two others, and beside three
+limit_fits : (m : Method) (make : List ℕ → List ℕ → ℤ → Call) (db table : Got (List ℕ)) (max : Got ℤ) → ((a b : List ℕ) (n : ℤ) → IsMethodOf (make a b n) m) → Fits (Some m) (client (list_call db table max make))
+limit_fits m make Nothing table max is = (tt, tt)
+limit_fits m make BadText table max is = (tt, tt)
+limit_fits m make (Is a) Nothing max is = (tt, tt)
+limit_fits m make (Is a) BadText max is = (tt, tt)
+limit_fits m make (Is a) (Is b) Nothing is = (tt, is a b no_limit)
+limit_fits m make (Is a) (Is b) BadText is = (tt, tt)
+limit_fits m make (Is a) (Is b) (Is n) is = (tt, is a b n)
+
+limits_fit : (m : Method) (make : List ℕ → List ℕ → List (List ℕ) → ℤ → Call) (all : Result (List ℕ × List ℕ × List (List ℕ)) ℤ) (max : Got ℤ) → ((a b : List ℕ) (c : List (List ℕ)) (n : ℤ) → IsMethodOf (make a b c n) m)
+    → Fits (Some m) (client (and_then all (λ all. and_then (given (pos 4) no_limit max) (λ max. Ok (make all.0 all.1 all.2 max)))))
+limits_fit m make (Err id) max is = (tt, tt)
+limits_fit m make (Ok all) Nothing is = (tt, is all.0 all.1 all.2 no_limit)
+limits_fit m make (Ok all) BadText is = (tt, tt)
+limits_fit m make (Ok all) (Is n) is = (tt, is all.0 all.1 all.2 n)
+
+rename_fits : (all : Result (List ℕ × List ℕ × List (List ℕ)) ℤ) (part : Got PartArg) → Fits (Some method.RenamePartition) (client (and_then all (λ all. and_then (needed (pos 4) part) (λ d. Ok (RenamePartition all.0 all.1 all.2 d)))))
+rename_fits (Err id) part = (tt, tt)
+rename_fits (Ok all) Nothing = (tt, tt)
+rename_fits (Ok all) BadText = (tt, tt)
+rename_fits (Ok all) (Is part) = (tt, refl)
+
+-- a request is a call that came so
+request_fits : (request : Got Call) → IfIs request (λ call. IsMethodOf call method.AddPartitionsReq) → Fits (Some method.AddPartitionsReq) (client (add_partitions_req_call request))
+request_fits Nothing is = (tt, tt)
+request_fits BadText is = (tt, tt)
+request_fits (Is call) is = (tt, is)
+
+name_fits : (m : Method) (call : OfName) (name : Got (List ℕ)) → ((name : List ℕ) → CanReply (Some m) (name_reply call name)) → Fits (Some m) (name_asked call name)
+name_fits m call Nothing can = (tt, tt)
+name_fits m call BadText can = (tt, tt)
+name_fits m call (Is name) can = (can name, tt)
+
+vals_can : (name : List ℕ) → CanReply (Some method.PartitionNameToVals) (vals_reply name)
+vals_can name = by_fault (first_unreadable name)
+  where
+    by_fault : (o : Option ℕ) → CanReply (Some method.PartitionNameToVals) (unless_unreadable o (Names (vals name)))
+    by_fault None = refl
+    by_fault (Some component) = refl
+
+spec_can : (name : List ℕ) → CanReply (Some method.PartitionNameToSpec) (spec_reply name)
+spec_can name = by_fault (first_unreadable name)
+  where
+    by_fault : (o : Option ℕ) → CanReply (Some method.PartitionNameToSpec) (unless_unreadable o (Spec (spec name)))
+    by_fault None = refl
+    by_fault (Some component) = refl
+
+valid_can : (valid refuse : Bool) → CanReply (Some method.PartitionNameHasValidCharacters) (if valid then Flag true else (if refuse then invalid_request else Flag false))
+valid_can true refuse = refl
+valid_can false true = refl
+valid_can false false = refl
+
+valid_fits : (values : Got (List (List ℕ))) (refuse : Got Bool) → Fits (Some method.PartitionNameHasValidCharacters) (plain (has_valid_characters_reply values refuse))
+valid_fits Nothing refuse = (tt, tt)
+valid_fits BadText refuse = (tt, tt)
+valid_fits (Is values) Nothing = (valid_can (list_all is_valid_value values) false, tt)
+valid_fits (Is values) BadText = (tt, tt)
+valid_fits (Is values) (Is refuse) = (valid_can (list_all is_valid_value values) refuse, tt)
 
 user_fits : (user : Got (List ℕ)) (groups : Got (List (List ℕ))) → Fits (Some method.SetUgi) (plain (set_ugi_reply user groups))
 user_fits Nothing groups = (tt, tt)
@@ -90,25 +148,48 @@ asked_fits (Some method.GetStatus) v = (refl, tt)
 asked_fits (Some method.Shutdown) v = (tt, tt)
 asked_fits (Some method.SetUgi) v = user_fits (text_at (pos 1) v) (texts_at (pos 2) v)
 asked_fits (Some method.GetAllFunctions) v = (refl, tt)
+asked_fits (Some method.PartitionNameHasValidCharacters) v = valid_fits (texts_at (pos 1) v) (flag_at (pos 2) v)
+asked_fits (Some method.PartitionNameToVals) v = name_fits method.PartitionNameToVals of_name.Vals (text_at (pos 1) v) vals_can
+asked_fits (Some method.PartitionNameToSpec) v = name_fits method.PartitionNameToSpec of_name.Spec (text_at (pos 1) v) spec_can
 asked_fits (Some method.CreateDatabase) v = one_fits method.CreateDatabase CreateDatabase (database_at (pos 1) v) (λ db. refl)
 asked_fits (Some method.GetDatabase) v = one_fits method.GetDatabase GetDatabase (text_at (pos 1) v) (λ name. refl)
 asked_fits (Some method.DropDatabase) v = drop_database_fits (text_at (pos 1) v) (flag_at (pos 3) v)
 asked_fits (Some method.GetDatabases) v = one_fits method.GetDatabases GetDatabases (text_at (pos 1) v) (λ pattern. refl)
 asked_fits (Some method.GetAllDatabases) v = (tt, refl)
 asked_fits (Some method.AlterDatabase) v = two_fits method.AlterDatabase AlterDatabase (text_at (pos 1) v) (database_at (pos 2) v) (λ name db. refl)
-asked_fits (Some method.CreateTable) v = create_table_fits method.CreateTable (table_at (pos 1) v) Nothing (λ new. inl refl)
-asked_fits (Some method.CreateTableWithEnvironmentContext) v = create_table_fits method.CreateTableWithEnvironmentContext (table_at (pos 1) v) (context_at (pos 2) v) (λ new. inr refl)
-asked_fits (Some method.DropTable) v = drop_table_fits method.DropTable (text_at (pos 1) v) (text_at (pos 2) v) Nothing (λ db table. inl refl)
-asked_fits (Some method.DropTableWithEnvironmentContext) v = drop_table_fits method.DropTableWithEnvironmentContext (text_at (pos 1) v) (text_at (pos 2) v) (context_at (pos 4) v) (λ db table. inr refl)
+asked_fits (Some method.CreateTable) v = context_fits method.CreateTable (pos 2) Nothing _ (one_fits method.CreateTable CreateTable (table_at (pos 1) v) (λ new. inl refl))
+asked_fits (Some method.CreateTableWithEnvironmentContext) v = context_fits method.CreateTableWithEnvironmentContext (pos 2) (context_at (pos 2) v) _ (one_fits method.CreateTableWithEnvironmentContext CreateTable (table_at (pos 1) v) (λ new. inr refl))
+asked_fits (Some method.DropTable) v = context_fits method.DropTable (pos 4) Nothing _ (two_fits method.DropTable DropTable (text_at (pos 1) v) (text_at (pos 2) v) (λ db table. inl refl))
+asked_fits (Some method.DropTableWithEnvironmentContext) v = context_fits method.DropTableWithEnvironmentContext (pos 4) (context_at (pos 4) v) _ (two_fits method.DropTableWithEnvironmentContext DropTable (text_at (pos 1) v) (text_at (pos 2) v) (λ db table. inr refl))
 asked_fits (Some method.GetTables) v = two_fits method.GetTables GetTables (text_at (pos 1) v) (text_at (pos 2) v) (λ db pattern. refl)
 asked_fits (Some method.GetAllTables) v = one_fits method.GetAllTables GetAllTables (text_at (pos 1) v) (λ db. refl)
 asked_fits (Some method.GetTable) v = two_fits method.GetTable GetTable (text_at (pos 1) v) (text_at (pos 2) v) (λ db table. refl)
 asked_fits (Some method.GetTableReq) v = one_fits method.GetTableReq (λ (request : TableRequest). GetTableReq request.db request.table) (said (pos 1) struct_code request_of v) (λ request. refl)
 asked_fits (Some method.GetTableObjectsByName) v = two_fits method.GetTableObjectsByName GetTableObjectsByName (text_at (pos 1) v) (texts_at (pos 2) v) (λ db tables. refl)
-asked_fits (Some method.AlterTable) v = alter_table_fits method.AlterTable (text_at (pos 1) v) (text_at (pos 2) v) (table_at (pos 3) v) Nothing (λ db table new. inl refl)
-asked_fits (Some method.AlterTableWithEnvironmentContext) v = alter_table_fits method.AlterTableWithEnvironmentContext (text_at (pos 1) v) (text_at (pos 2) v) (table_at (pos 3) v) (context_at (pos 4) v) (λ db table new. inr refl)
+asked_fits (Some method.AlterTable) v = context_fits method.AlterTable (pos 4) Nothing _ (three_fits method.AlterTable AlterTable (text_at (pos 1) v) (text_at (pos 2) v) (table_at (pos 3) v) (λ db table new. inl refl))
+asked_fits (Some method.AlterTableWithEnvironmentContext) v = context_fits method.AlterTableWithEnvironmentContext (pos 4) (context_at (pos 4) v) _ (three_fits method.AlterTableWithEnvironmentContext AlterTable (text_at (pos 1) v) (text_at (pos 2) v) (table_at (pos 3) v) (λ db table new. inr refl))
 asked_fits (Some method.GetFields) v = two_fits method.GetFields GetFields (text_at (pos 1) v) (text_at (pos 2) v) (λ db table. refl)
 asked_fits (Some method.GetSchema) v = two_fits method.GetSchema GetSchema (text_at (pos 1) v) (text_at (pos 2) v) (λ db table. refl)
+asked_fits (Some method.AddPartition) v = context_fits method.AddPartition (pos 2) Nothing _ (one_fits method.AddPartition AddPartition (partition_at (pos 1) v) (λ part. inl refl))
+asked_fits (Some method.AddPartitionWithEnvironmentContext) v = context_fits method.AddPartitionWithEnvironmentContext (pos 2) (context_at (pos 2) v) _ (one_fits method.AddPartitionWithEnvironmentContext AddPartition (partition_at (pos 1) v) (λ part. inr refl))
+asked_fits (Some method.AddPartitions) v = one_fits method.AddPartitions AddPartitions (partitions_at (pos 1) v) (λ parts. refl)
+asked_fits (Some method.AddPartitionsReq) v = request_fits (said (pos 1) struct_code adding_of v) (is_request v)
+asked_fits (Some method.AppendPartition) v = three_fits method.AppendPartition AppendPartition (text_at (pos 1) v) (text_at (pos 2) v) (texts_at (pos 3) v) (λ db table other. refl)
+asked_fits (Some method.AppendPartitionByName) v = three_fits method.AppendPartitionByName AppendPartitionByName (text_at (pos 1) v) (text_at (pos 2) v) (text_at (pos 3) v) (λ db table other. refl)
+asked_fits (Some method.DropPartition) v = context_fits method.DropPartition (pos 5) Nothing _ (three_fits method.DropPartition DropPartition (text_at (pos 1) v) (text_at (pos 2) v) (texts_at (pos 3) v) (λ db table values. inl refl))
+asked_fits (Some method.DropPartitionWithEnvironmentContext) v = context_fits method.DropPartitionWithEnvironmentContext (pos 5) (context_at (pos 5) v) _ (three_fits method.DropPartitionWithEnvironmentContext DropPartition (text_at (pos 1) v) (text_at (pos 2) v) (texts_at (pos 3) v) (λ db table values. inr refl))
+asked_fits (Some method.DropPartitionByName) v = three_fits method.DropPartitionByName DropPartitionByName (text_at (pos 1) v) (text_at (pos 2) v) (text_at (pos 3) v) (λ db table other. refl)
+asked_fits (Some method.GetPartition) v = three_fits method.GetPartition GetPartition (text_at (pos 1) v) (text_at (pos 2) v) (texts_at (pos 3) v) (λ db table other. refl)
+asked_fits (Some method.GetPartitionByName) v = three_fits method.GetPartitionByName GetPartitionByName (text_at (pos 1) v) (text_at (pos 2) v) (text_at (pos 3) v) (λ db table other. refl)
+asked_fits (Some method.GetPartitions) v = limit_fits method.GetPartitions GetPartitions (text_at (pos 1) v) (text_at (pos 2) v) (limit_at (pos 3) v) (λ db table max. refl)
+asked_fits (Some method.GetPartitionNames) v = limit_fits method.GetPartitionNames GetPartitionNames (text_at (pos 1) v) (text_at (pos 2) v) (limit_at (pos 3) v) (λ db table max. refl)
+asked_fits (Some method.GetPartitionsPs) v = limits_fit method.GetPartitionsPs GetPartitionsPs (needed_three (text_at (pos 1) v) (text_at (pos 2) v) (texts_at (pos 3) v)) (limit_at (pos 4) v) (λ db table values max. refl)
+asked_fits (Some method.GetPartitionNamesPs) v = limits_fit method.GetPartitionNamesPs GetPartitionNamesPs (needed_three (text_at (pos 1) v) (text_at (pos 2) v) (texts_at (pos 3) v)) (limit_at (pos 4) v) (λ db table values max. refl)
+asked_fits (Some method.GetPartitionsByNames) v = three_fits method.GetPartitionsByNames GetPartitionsByNames (text_at (pos 1) v) (text_at (pos 2) v) (texts_at (pos 3) v) (λ db table other. refl)
+asked_fits (Some method.AlterPartition) v = context_fits method.AlterPartition (pos 4) Nothing _ (three_fits method.AlterPartition AlterPartition (text_at (pos 1) v) (text_at (pos 2) v) (partition_at (pos 3) v) (λ db table part. inl refl))
+asked_fits (Some method.AlterPartitionWithEnvironmentContext) v = context_fits method.AlterPartitionWithEnvironmentContext (pos 4) (context_at (pos 4) v) _ (three_fits method.AlterPartitionWithEnvironmentContext AlterPartition (text_at (pos 1) v) (text_at (pos 2) v) (partition_at (pos 3) v) (λ db table part. inr refl))
+asked_fits (Some method.AlterPartitions) v = three_fits method.AlterPartitions AlterPartitions (text_at (pos 1) v) (text_at (pos 2) v) (partitions_at (pos 3) v) (λ db table parts. refl)
+asked_fits (Some method.RenamePartition) v = rename_fits (needed_three (text_at (pos 1) v) (text_at (pos 2) v) (texts_at (pos 3) v)) (partition_at (pos 4) v)
 asked_fits (Some method.GetNextNotification) v = one_fits method.GetNextNotification (λ (request : NotificationRequest). GetNextNotification request.last request.max) (said (pos 1) struct_code poll_of v) (λ request. refl)
 asked_fits (Some method.GetCurrentNotificationEventId) v = (tt, refl)
 

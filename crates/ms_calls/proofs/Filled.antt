@@ -3,11 +3,12 @@ use Rattle.std.proofs.Common.{◌≡◌, ℕ, pos, refl}
 use Rattle.ms_structs.specs.declared.got.Got.{Got}
 use Rattle.ms_structs.specs.Slots.{fold_fields}
 use Rattle.ms_structs.proofs.Said.{slot_is}
-use Rattle.ms_calls.specs.Shapes.{one_none, one_says, one_set, two_none, two_says, two_set, three_none, three_says, three_set, four_none, four_says, four_set}
+use Rattle.ms_calls.specs.Shapes.{one_none, one_says, one_set, two_none, two_says, two_set, three_none, three_says, three_set, four_none, four_says, four_set, five_none, five_says, five_set}
 use Rattle.ms_calls.specs.declared.slots.One.{One}
 use Rattle.ms_calls.specs.declared.slots.Two.{Two}
 use Rattle.ms_calls.specs.declared.slots.Three.{Three}
 use Rattle.ms_calls.specs.declared.slots.Four.{Four}
+use Rattle.ms_calls.specs.declared.slots.Five.{Five}
 use Rattle.thrift_binary.specs.Tree.{Fields, Wire}
 
 pub one_filled : {A X : Type 0} (code1 : ℕ) (means1 : Wire → Got X) (v : Fields) → ◌≡◌ {A = One A X} (fold_fields (one_set code1 means1) one_none v) (one_says code1 means1 v)
@@ -35,3 +36,12 @@ four_filled {A} {B} {C} {D} {X} {Y} {Z} {U} code1 means1 code2 means2 code3 mean
     let p3 = slot_is (four_set code1 means1 code2 means2 code3 means3 code4 means4) four_none v (λ (t : Four A B C D X Y Z U). t.third) (pos 3) code3 means3 (λ f ty id w. refl) refl refl in
     let p4 = slot_is (four_set code1 means1 code2 means2 code3 means3 code4 means4) four_none v (λ (t : Four A B C D X Y Z U). t.fourth) (pos 4) code4 means4 (λ f ty id w. refl) refl refl in
     λ i. record { first = p1 i; second = p2 i; third = p3 i; fourth = p4 i }
+
+pub five_filled : {A B C D E X Y Z U V : Type 0} (code1 : ℕ) (means1 : Wire → Got X) (code2 : ℕ) (means2 : Wire → Got Y) (code3 : ℕ) (means3 : Wire → Got Z) (code4 : ℕ) (means4 : Wire → Got U) (code5 : ℕ) (means5 : Wire → Got V) (v : Fields) → ◌≡◌ {A = Five A B C D E X Y Z U V} (fold_fields (five_set code1 means1 code2 means2 code3 means3 code4 means4 code5 means5) five_none v) (five_says code1 means1 code2 means2 code3 means3 code4 means4 code5 means5 v)
+five_filled {A} {B} {C} {D} {E} {X} {Y} {Z} {U} {V} code1 means1 code2 means2 code3 means3 code4 means4 code5 means5 v =
+    let p1 = slot_is (five_set code1 means1 code2 means2 code3 means3 code4 means4 code5 means5) five_none v (λ (t : Five A B C D E X Y Z U V). t.first) (pos 1) code1 means1 (λ f ty id w. refl) refl refl in
+    let p2 = slot_is (five_set code1 means1 code2 means2 code3 means3 code4 means4 code5 means5) five_none v (λ (t : Five A B C D E X Y Z U V). t.second) (pos 2) code2 means2 (λ f ty id w. refl) refl refl in
+    let p3 = slot_is (five_set code1 means1 code2 means2 code3 means3 code4 means4 code5 means5) five_none v (λ (t : Five A B C D E X Y Z U V). t.third) (pos 3) code3 means3 (λ f ty id w. refl) refl refl in
+    let p4 = slot_is (five_set code1 means1 code2 means2 code3 means3 code4 means4 code5 means5) five_none v (λ (t : Five A B C D E X Y Z U V). t.fourth) (pos 4) code4 means4 (λ f ty id w. refl) refl refl in
+    let p5 = slot_is (five_set code1 means1 code2 means2 code3 means3 code4 means4 code5 means5) five_none v (λ (t : Five A B C D E X Y Z U V). t.fifth) (pos 5) code5 means5 (λ f ty id w. refl) refl refl in
+    λ i. record { first = p1 i; second = p2 i; third = p3 i; fourth = p4 i; fifth = p5 i }

@@ -1,6 +1,9 @@
+mod Adding
 mod CanBeReplied
 mod Filled
 mod OrderIsFree
 mod Places
+mod Shorts
 mod Structs
 mod UnderZero
+mod Valid

@@ -1,19 +1,23 @@
 -- What a message asks doesn't depend on the order of fields with different ids.
 use Rattle.std.proofs.Common.{◌≡◌, Option, Some, None, pos, refl}
+use Rattle.cat_types.specs.declared.calls.Call.TheVariants.{AppendPartition, AppendPartitionByName, DropPartitionByName, GetPartition, GetPartitionByName, GetPartitionNames, GetPartitionNamesPs, GetPartitions, GetPartitionsByNames, GetPartitionsPs}
 use Rattle.ms_calls.specs.declared.method.Method.{Method}
 use Rattle.ms_calls.specs.declared.method.Method.TheVariants as method
-use Rattle.ms_calls.specs.Arguments.{alter_database_call, alter_table_call, create_database_call, create_table_call, drop_database_call, drop_table_call, get_all_tables_call, get_database_call, get_databases_call, get_fields_call, get_next_notification_call, get_schema_call, get_table_call, get_table_objects_by_name_call, get_table_req_call, get_tables_call, set_ugi_reply}
-use Rattle.ms_calls.specs.Asked.{asked_by, client, plain, SameByIds, OrderOfFieldsIsFree}
+use Rattle.ms_calls.specs.declared.part_texts.OfName.TheVariants as of_name
+use Rattle.ms_calls.specs.Arguments.{add_partition_call, add_partitions_call, add_partitions_req_call, alter_database_call, alter_partition_call, alter_partitions_call, alter_table_call, create_database_call, create_table_call, drop_database_call, drop_partition_call, drop_table_call, from_three, get_all_tables_call, get_database_call, get_databases_call, get_fields_call, get_next_notification_call, get_schema_call, get_table_call, get_table_objects_by_name_call, get_table_req_call, get_tables_call, has_valid_characters_reply, list_call, list_ps_call, rename_partition_call, set_ugi_reply}
+use Rattle.ms_calls.specs.Asked.{asked_by, client, name_asked, plain, SameByIds, OrderOfFieldsIsFree}
 use Rattle.ms_calls.specs.Methods.{method_named}
 use Rattle.ms_structs.specs.declared.got.Got.TheVariants.{Nothing}
 use Rattle.ms_structs.specs.Database.{database_of}
 use Rattle.ms_structs.specs.Notifications.{request_of as poll_of}
-use Rattle.ms_structs.specs.Values.{flag_of, items_of, text_of}
+use Rattle.ms_structs.specs.Values.{flag_of, items_of, number_of, text_of}
 use Rattle.ms_structs.proofs.Said.{said_same}
 use Rattle.table_structs.specs.Contexts.{context_of}
+use Rattle.table_structs.specs.PartRequests.{adding_of}
+use Rattle.table_structs.specs.Partitions.{partition_of}
 use Rattle.table_structs.specs.Requests.{request_of}
 use Rattle.table_structs.specs.Tables.{table_of}
-use Rattle.thrift_binary.specs.Codes.{bool_code, list_code, struct_code, text_code}
+use Rattle.thrift_binary.specs.Codes.{bool_code, i16_code, list_code, struct_code, text_code}
 use Rattle.thrift_binary.specs.Tree.{Fields}
 
 order_by : (m : Option Method) (v w : Fields) → SameByIds v w → asked_by m v ≡ asked_by m w
@@ -23,6 +27,9 @@ order_by (Some method.GetStatus) v w same = refl
 order_by (Some method.Shutdown) v w same = refl
 order_by (Some method.SetUgi) v w same = λ i. plain (set_ugi_reply (said_same (pos 1) text_code text_of v w same i) (said_same (pos 2) list_code (items_of text_code text_of) v w same i))
 order_by (Some method.GetAllFunctions) v w same = refl
+order_by (Some method.PartitionNameHasValidCharacters) v w same = λ i. plain (has_valid_characters_reply (said_same (pos 1) list_code (items_of text_code text_of) v w same i) (said_same (pos 2) bool_code flag_of v w same i))
+order_by (Some method.PartitionNameToVals) v w same = λ i. name_asked of_name.Vals (said_same (pos 1) text_code text_of v w same i)
+order_by (Some method.PartitionNameToSpec) v w same = λ i. name_asked of_name.Spec (said_same (pos 1) text_code text_of v w same i)
 order_by (Some method.CreateDatabase) v w same = λ i. client (create_database_call (said_same (pos 1) struct_code database_of v w same i))
 order_by (Some method.GetDatabase) v w same = λ i. client (get_database_call (said_same (pos 1) text_code text_of v w same i))
 order_by (Some method.DropDatabase) v w same = λ i. client (drop_database_call (said_same (pos 1) text_code text_of v w same i) (said_same (pos 3) bool_code flag_of v w same i))
@@ -42,6 +49,26 @@ order_by (Some method.AlterTable) v w same = λ i. client (alter_table_call (sai
 order_by (Some method.AlterTableWithEnvironmentContext) v w same = λ i. client (alter_table_call (said_same (pos 1) text_code text_of v w same i) (said_same (pos 2) text_code text_of v w same i) (said_same (pos 3) struct_code table_of v w same i) (said_same (pos 4) struct_code context_of v w same i))
 order_by (Some method.GetFields) v w same = λ i. client (get_fields_call (said_same (pos 1) text_code text_of v w same i) (said_same (pos 2) text_code text_of v w same i))
 order_by (Some method.GetSchema) v w same = λ i. client (get_schema_call (said_same (pos 1) text_code text_of v w same i) (said_same (pos 2) text_code text_of v w same i))
+order_by (Some method.AddPartition) v w same = λ i. client (add_partition_call (said_same (pos 1) struct_code partition_of v w same i) Nothing)
+order_by (Some method.AddPartitionWithEnvironmentContext) v w same = λ i. client (add_partition_call (said_same (pos 1) struct_code partition_of v w same i) (said_same (pos 2) struct_code context_of v w same i))
+order_by (Some method.AddPartitions) v w same = λ i. client (add_partitions_call (said_same (pos 1) list_code (items_of struct_code partition_of) v w same i))
+order_by (Some method.AddPartitionsReq) v w same = λ i. client (add_partitions_req_call (said_same (pos 1) struct_code adding_of v w same i))
+order_by (Some method.AppendPartition) v w same = λ i. client (from_three (said_same (pos 1) text_code text_of v w same i) (said_same (pos 2) text_code text_of v w same i) (said_same (pos 3) list_code (items_of text_code text_of) v w same i) AppendPartition)
+order_by (Some method.AppendPartitionByName) v w same = λ i. client (from_three (said_same (pos 1) text_code text_of v w same i) (said_same (pos 2) text_code text_of v w same i) (said_same (pos 3) text_code text_of v w same i) AppendPartitionByName)
+order_by (Some method.DropPartition) v w same = λ i. client (drop_partition_call (said_same (pos 1) text_code text_of v w same i) (said_same (pos 2) text_code text_of v w same i) (said_same (pos 3) list_code (items_of text_code text_of) v w same i) Nothing)
+order_by (Some method.DropPartitionWithEnvironmentContext) v w same = λ i. client (drop_partition_call (said_same (pos 1) text_code text_of v w same i) (said_same (pos 2) text_code text_of v w same i) (said_same (pos 3) list_code (items_of text_code text_of) v w same i) (said_same (pos 5) struct_code context_of v w same i))
+order_by (Some method.DropPartitionByName) v w same = λ i. client (from_three (said_same (pos 1) text_code text_of v w same i) (said_same (pos 2) text_code text_of v w same i) (said_same (pos 3) text_code text_of v w same i) DropPartitionByName)
+order_by (Some method.GetPartition) v w same = λ i. client (from_three (said_same (pos 1) text_code text_of v w same i) (said_same (pos 2) text_code text_of v w same i) (said_same (pos 3) list_code (items_of text_code text_of) v w same i) GetPartition)
+order_by (Some method.GetPartitionByName) v w same = λ i. client (from_three (said_same (pos 1) text_code text_of v w same i) (said_same (pos 2) text_code text_of v w same i) (said_same (pos 3) text_code text_of v w same i) GetPartitionByName)
+order_by (Some method.GetPartitions) v w same = λ i. client (list_call (said_same (pos 1) text_code text_of v w same i) (said_same (pos 2) text_code text_of v w same i) (said_same (pos 3) i16_code number_of v w same i) GetPartitions)
+order_by (Some method.GetPartitionNames) v w same = λ i. client (list_call (said_same (pos 1) text_code text_of v w same i) (said_same (pos 2) text_code text_of v w same i) (said_same (pos 3) i16_code number_of v w same i) GetPartitionNames)
+order_by (Some method.GetPartitionsPs) v w same = λ i. client (list_ps_call (said_same (pos 1) text_code text_of v w same i) (said_same (pos 2) text_code text_of v w same i) (said_same (pos 3) list_code (items_of text_code text_of) v w same i) (said_same (pos 4) i16_code number_of v w same i) GetPartitionsPs)
+order_by (Some method.GetPartitionNamesPs) v w same = λ i. client (list_ps_call (said_same (pos 1) text_code text_of v w same i) (said_same (pos 2) text_code text_of v w same i) (said_same (pos 3) list_code (items_of text_code text_of) v w same i) (said_same (pos 4) i16_code number_of v w same i) GetPartitionNamesPs)
+order_by (Some method.GetPartitionsByNames) v w same = λ i. client (from_three (said_same (pos 1) text_code text_of v w same i) (said_same (pos 2) text_code text_of v w same i) (said_same (pos 3) list_code (items_of text_code text_of) v w same i) GetPartitionsByNames)
+order_by (Some method.AlterPartition) v w same = λ i. client (alter_partition_call (said_same (pos 1) text_code text_of v w same i) (said_same (pos 2) text_code text_of v w same i) (said_same (pos 3) struct_code partition_of v w same i) Nothing)
+order_by (Some method.AlterPartitionWithEnvironmentContext) v w same = λ i. client (alter_partition_call (said_same (pos 1) text_code text_of v w same i) (said_same (pos 2) text_code text_of v w same i) (said_same (pos 3) struct_code partition_of v w same i) (said_same (pos 4) struct_code context_of v w same i))
+order_by (Some method.AlterPartitions) v w same = λ i. client (alter_partitions_call (said_same (pos 1) text_code text_of v w same i) (said_same (pos 2) text_code text_of v w same i) (said_same (pos 3) list_code (items_of struct_code partition_of) v w same i))
+order_by (Some method.RenamePartition) v w same = λ i. client (rename_partition_call (said_same (pos 1) text_code text_of v w same i) (said_same (pos 2) text_code text_of v w same i) (said_same (pos 3) list_code (items_of text_code text_of) v w same i) (said_same (pos 4) struct_code partition_of v w same i))
 order_by (Some method.GetNextNotification) v w same = λ i. client (get_next_notification_call (said_same (pos 1) struct_code poll_of v w same i))
 order_by (Some method.GetCurrentNotificationEventId) v w same = refl
 

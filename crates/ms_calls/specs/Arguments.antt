@@ -1,18 +1,32 @@
 -- What calls make of their arguments. A wrong argument is told by its id; where several are wrong, by the least.
-use Rattle.std.specs.Prelude.{ℕ, Bool, false, List, [], ◌∷◌, ◌++◌, ⊤, ℤ, pos, Result, Ok, Err}
+use Rattle.std.specs.Prelude.{ℕ, nat_le, length, ◌==◌, Bool, true, false, not, ◌&&◌, if◌then◌else◌, List, [], ◌∷◌, ◌++◌, ⊤, Option, None, Some, ℤ, pos, negsuc, Result, Ok, Err}
+use Rattle.std.specs.List.{list_all}
 use Rattle.cat_types.specs.declared.arguments.DbArg.{DbArg}
+use Rattle.cat_types.specs.declared.arguments.PartArg.{PartArg}
 use Rattle.cat_types.specs.declared.arguments.TableArg.{TableArg}
 use Rattle.cat_types.specs.declared.calls.Call.{Call}
-use Rattle.cat_types.specs.declared.calls.Call.TheVariants.{AlterDatabase, AlterTable, CreateDatabase, CreateTable, DropDatabase, DropTable, GetAllTables, GetDatabase, GetDatabases, GetFields, GetNextNotification, GetSchema, GetTable, GetTableObjectsByName, GetTableReq, GetTables}
+use Rattle.cat_types.specs.declared.calls.Call.TheVariants.{AddPartition, AddPartitions, AlterDatabase, AlterPartition, AlterPartitions, AlterTable, AppendPartition, AppendPartitionByName, CreateDatabase, CreateTable, DropDatabase, DropPartition, DropPartitionByName, DropTable, GetAllTables, GetDatabase, GetDatabases, GetFields, GetNextNotification, GetPartition, GetPartitionByName, GetPartitionNames, GetPartitionNamesPs, GetPartitions, GetPartitionsByNames, GetPartitionsPs, GetSchema, GetTable, GetTableObjectsByName, GetTableReq, GetTables, RenamePartition}
 use Rattle.cat_types.specs.declared.replies.Reply.{Reply}
-use Rattle.cat_types.specs.declared.replies.Reply.TheVariants.{Names}
+use Rattle.cat_types.specs.declared.replies.Reply.TheVariants.{Flag, Names, Spec}
+use Rattle.ms_calls.specs.declared.of_partitions.OfFirstValues.{OfFirstValues}
+use Rattle.ms_calls.specs.declared.of_partitions.OfFirstValues.TheVariants as of_first_values
+use Rattle.ms_calls.specs.declared.of_partitions.OfLimit.{OfLimit}
+use Rattle.ms_calls.specs.declared.of_partitions.OfLimit.TheVariants as of_limit
+use Rattle.ms_calls.specs.declared.of_partitions.OfPartName.{OfPartName}
+use Rattle.ms_calls.specs.declared.of_partitions.OfPartName.TheVariants as of_part_name
+use Rattle.ms_calls.specs.declared.of_partitions.OfValues.{OfValues}
+use Rattle.ms_calls.specs.declared.of_partitions.OfValues.TheVariants as of_values
 use Rattle.ms_calls.specs.declared.of_texts.OfText.{OfText}
 use Rattle.ms_calls.specs.declared.of_texts.OfText.TheVariants as of_text
 use Rattle.ms_calls.specs.declared.of_texts.OfTwoTexts.{OfTwoTexts}
 use Rattle.ms_calls.specs.declared.of_texts.OfTwoTexts.TheVariants as of_two_texts
+use Rattle.ms_calls.specs.declared.part_texts.OfName.{OfName}
+use Rattle.ms_calls.specs.declared.part_texts.OfName.TheVariants as of_name
+use Rattle.ms_calls.specs.Refusals.{invalid_request}
 use Rattle.ms_structs.specs.declared.got.Got.{Got}
 use Rattle.ms_structs.specs.declared.got.Got.TheVariants.{Nothing, BadText, Is}
 use Rattle.ms_structs.specs.declared.notification_request.NotificationRequest.{NotificationRequest}
+use Rattle.part_names.specs.Reading.{first_unreadable, spec, vals}
 use Rattle.table_structs.specs.declared.requests.TableRequest.{TableRequest}
 
 -- an argument that must be there and may have no bad text in it
@@ -52,6 +66,10 @@ needed_three first second third = and_then (needed (pos 1) first) (λ a. and_the
 abbrev pub from_three : {A B C D : Type 0} → Got A → Got B → Got C → (A → B → C → D) → Result D ℤ
 from_three first second third make = and_then (needed_three first second third) (λ all. Ok (make all.0 all.1 all.2))
 
+-- four arguments that must be there: they make this
+abbrev pub from_four : {A B C D E : Type 0} → Got A → Got B → Got C → Got D → (A → B → C → D → E) → Result E ℤ
+from_four first second third fourth make = and_then (needed_three first second third) (λ all. and_then (needed (pos 4) fourth) (λ d. Ok (make all.0 all.1 all.2 d)))
+
 -- what the other arguments make stays, whatever a context says that comes with them; but a bad text in it is a wrong argument
 abbrev pub with_context : {A : Type 0} → ℤ → Got ⊤ → Result A ℤ → Result A ℤ
 with_context id context made = and_then made (λ value. and_then (given id tt context) (λ _. Ok value))
@@ -71,6 +89,29 @@ call_of_two_texts of_two_texts.GetTables db pattern = GetTables db pattern
 call_of_two_texts of_two_texts.GetTable db table = GetTable db table
 call_of_two_texts of_two_texts.GetFields db table = GetFields db table
 call_of_two_texts of_two_texts.GetSchema db table = GetSchema db table
+
+-- the call that a database, a table and values make, or names of partitions
+abbrev pub call_of_values : OfValues → List ℕ → List ℕ → List (List ℕ) → Call
+call_of_values of_values.AppendPartition db table values = AppendPartition db table values
+call_of_values of_values.DropPartition db table values = DropPartition db table values
+call_of_values of_values.GetPartition db table values = GetPartition db table values
+call_of_values of_values.GetPartitionsByNames db table names = GetPartitionsByNames db table names
+
+-- the call that a database, a table and a partition's name make
+abbrev pub call_of_part_name : OfPartName → List ℕ → List ℕ → List ℕ → Call
+call_of_part_name of_part_name.AppendPartitionByName db table name = AppendPartitionByName db table name
+call_of_part_name of_part_name.DropPartitionByName db table name = DropPartitionByName db table name
+call_of_part_name of_part_name.GetPartitionByName db table name = GetPartitionByName db table name
+
+-- the call that a database, a table and a limit make
+abbrev pub call_of_limit : OfLimit → List ℕ → List ℕ → ℤ → Call
+call_of_limit of_limit.GetPartitions db table max = GetPartitions db table max
+call_of_limit of_limit.GetPartitionNames db table max = GetPartitionNames db table max
+
+-- the call that a database, a table, the first values and a limit make
+abbrev pub call_of_first_values : OfFirstValues → List ℕ → List ℕ → List (List ℕ) → ℤ → Call
+call_of_first_values of_first_values.GetPartitionsPs db table values max = GetPartitionsPs db table values max
+call_of_first_values of_first_values.GetPartitionNamesPs db table values max = GetPartitionNamesPs db table values max
 
 -- ---- the server itself
 
@@ -147,3 +188,77 @@ get_schema_call db table = from_two db table GetSchema
 -- get_next_notification: 1 the request
 abbrev pub get_next_notification_call : Got NotificationRequest → Result Call ℤ
 get_next_notification_call request = from_one request (λ request. GetNextNotification request.last request.max)
+
+-- ---- partitions
+
+-- add_partition: 1 the partition, and in its other spelling 2 a context, of which nothing is used
+abbrev pub add_partition_call : Got PartArg → Got ⊤ → Result Call ℤ
+add_partition_call part context = with_context (pos 2) context (from_one part AddPartition)
+
+-- add_partitions: 1 the partitions
+abbrev pub add_partitions_call : Got (List PartArg) → Result Call ℤ
+add_partitions_call parts = from_one parts AddPartitions
+
+-- add_partitions_req: 1 the request, which is a call
+abbrev pub add_partitions_req_call : Got Call → Result Call ℤ
+add_partitions_req_call request = needed (pos 1) request
+
+-- drop_partition: 1 the database, 2 the table, 3 the values, and in its other spelling 5 a context, of which nothing is used
+abbrev pub drop_partition_call : Got (List ℕ) → Got (List ℕ) → Got (List (List ℕ)) → Got ⊤ → Result Call ℤ
+drop_partition_call db table values context = with_context (pos 5) context (from_three db table values DropPartition)
+
+-- an absent limit: there is none
+abbrev pub no_limit : ℤ
+no_limit = negsuc 0
+
+-- get_partitions and get_partition_names: 1 the database, 2 the table, 3 how many at most
+abbrev pub list_call : Got (List ℕ) → Got (List ℕ) → Got ℤ → (List ℕ → List ℕ → ℤ → Call) → Result Call ℤ
+list_call db table max make = and_then (needed_two db table) (λ all. and_then (given (pos 3) no_limit max) (λ max. Ok (make all.0 all.1 max)))
+
+-- get_partitions_ps and get_partition_names_ps: 1 the database, 2 the table, 3 the first values, 4 how many at most
+abbrev pub list_ps_call : Got (List ℕ) → Got (List ℕ) → Got (List (List ℕ)) → Got ℤ → (List ℕ → List ℕ → List (List ℕ) → ℤ → Call) → Result Call ℤ
+list_ps_call db table values max make = and_then (needed_three db table values) (λ all. and_then (given (pos 4) no_limit max) (λ max. Ok (make all.0 all.1 all.2 max)))
+
+-- alter_partition: 1 the database, 2 the table, 3 the partition, and in its other spelling 4 a context, of which nothing is used
+abbrev pub alter_partition_call : Got (List ℕ) → Got (List ℕ) → Got PartArg → Got ⊤ → Result Call ℤ
+alter_partition_call db table part context = with_context (pos 4) context (from_three db table part AlterPartition)
+
+-- alter_partitions: 1 the database, 2 the table, 3 the partitions
+abbrev pub alter_partitions_call : Got (List ℕ) → Got (List ℕ) → Got (List PartArg) → Result Call ℤ
+alter_partitions_call db table parts = from_three db table parts AlterPartitions
+
+-- rename_partition: 1 the database, 2 the table, 3 the values, 4 the partition with its new values
+abbrev pub rename_partition_call : Got (List ℕ) → Got (List ℕ) → Got (List (List ℕ)) → Got PartArg → Result Call ℤ
+rename_partition_call db table values part = from_four db table values part RenamePartition
+
+-- ---- names of partitions, which need no catalogue
+
+-- a reply, unless a component of the name can't be read
+abbrev pub unless_unreadable : Option ℕ → Reply → Reply
+unless_unreadable None reply = reply
+unless_unreadable (Some component) reply = invalid_request
+
+-- partition_name_to_vals: 1 the name; it is answered the values
+abbrev pub vals_reply : List ℕ → Reply
+vals_reply name = unless_unreadable (first_unreadable name) (Names (vals name))
+
+-- partition_name_to_spec: 1 the name; it is answered the values by their keys
+abbrev pub spec_reply : List ℕ → Reply
+spec_reply name = unless_unreadable (first_unreadable name) (Spec (spec name))
+
+-- what is answered of a name
+abbrev pub name_reply : OfName → List ℕ → Reply
+name_reply of_name.Vals name = vals_reply name
+name_reply of_name.Spec name = spec_reply name
+
+-- whether a partition may have a value: at most 4000 bytes, and none of them 0
+abbrev pub is_valid_value : List ℕ → Bool
+is_valid_value value = nat_le (length value) 4000 && list_all (λ byte. not (byte == 0)) value
+
+-- what is answered of values: whether all of them are valid, or, if it is so wanted, a refusal where they aren't
+abbrev pub valid_reply : List (List ℕ) → Bool → Reply
+valid_reply values refuse = if list_all is_valid_value values then Flag true else (if refuse then invalid_request else Flag false)
+
+-- partition_name_has_valid_characters: 1 the values, 2 whether those that aren't valid are refused; an absent flag is false
+abbrev pub has_valid_characters_reply : Got (List (List ℕ)) → Got Bool → Result Reply ℤ
+has_valid_characters_reply values refuse = and_then (needed (pos 1) values) (λ values. and_then (given (pos 2) false refuse) (λ refuse. Ok (valid_reply values refuse)))

@@ -1,16 +1,19 @@
 -- What a message asks. It depends on the call's name and on what is said of each argument: by the last field with the argument's id and type.
 use Rattle.std.specs.Prelude.{◌≡◌, ◌⊎◌, ⊤, ℕ, Bool, List, [], ◌∷◌, Option, None, Some, ℤ, pos, Result, Ok, Err, codes}
 use Rattle.cat_types.specs.declared.arguments.DbArg.{DbArg}
+use Rattle.cat_types.specs.declared.arguments.PartArg.{PartArg}
 use Rattle.cat_types.specs.declared.arguments.TableArg.{TableArg}
 use Rattle.cat_types.specs.declared.calls.Call.{Call}
-use Rattle.cat_types.specs.declared.calls.Call.TheVariants.{AlterDatabase, AlterTable, CreateDatabase, CreateTable, DropDatabase, DropTable, GetAllDatabases, GetAllTables, GetCurrentNotificationEventId, GetDatabase, GetDatabases, GetFields, GetNextNotification, GetSchema, GetTable, GetTableObjectsByName, GetTableReq, GetTables}
+use Rattle.cat_types.specs.declared.calls.Call.TheVariants.{AddPartition, AddPartitions, AddPartitionsReq, AlterDatabase, AlterPartition, AlterPartitions, AlterTable, AppendPartition, AppendPartitionByName, CreateDatabase, CreateTable, DropDatabase, DropPartition, DropPartitionByName, DropTable, GetAllDatabases, GetAllTables, GetCurrentNotificationEventId, GetDatabase, GetDatabases, GetFields, GetNextNotification, GetPartition, GetPartitionByName, GetPartitionNames, GetPartitionNamesPs, GetPartitions, GetPartitionsByNames, GetPartitionsPs, GetSchema, GetTable, GetTableObjectsByName, GetTableReq, GetTables, RenamePartition}
 use Rattle.cat_types.specs.declared.replies.Reply.{Reply}
 use Rattle.cat_types.specs.declared.replies.Reply.TheVariants.{Names, Nothing, Number}
 use Rattle.ms_calls.specs.declared.request.Asked.{Asked}
 use Rattle.ms_calls.specs.declared.request.Asked.TheVariants.{BadArgument, Client, Plain, Unknown, Shutdown}
 use Rattle.ms_calls.specs.declared.method.Method.{Method}
 use Rattle.ms_calls.specs.declared.method.Method.TheVariants as method
-use Rattle.ms_calls.specs.Arguments.{alter_database_call, alter_table_call, create_database_call, create_table_call, drop_database_call, drop_table_call, get_all_tables_call, get_database_call, get_databases_call, get_fields_call, get_next_notification_call, get_schema_call, get_table_call, get_table_objects_by_name_call, get_table_req_call, get_tables_call, set_ugi_reply}
+use Rattle.ms_calls.specs.Arguments.{add_partition_call, add_partitions_call, add_partitions_req_call, alter_database_call, alter_partition_call, alter_partitions_call, alter_table_call, create_database_call, create_table_call, drop_database_call, drop_partition_call, drop_table_call, from_one, from_three, get_all_tables_call, get_database_call, get_databases_call, get_fields_call, get_next_notification_call, get_schema_call, get_table_call, get_table_objects_by_name_call, get_table_req_call, get_tables_call, has_valid_characters_reply, list_call, list_ps_call, name_reply, rename_partition_call, set_ugi_reply}
+use Rattle.ms_calls.specs.declared.part_texts.OfName.{OfName}
+use Rattle.ms_calls.specs.declared.part_texts.OfName.TheVariants as of_name
 use Rattle.ms_structs.specs.Database.{database_of}
 use Rattle.ms_structs.specs.Notifications.{request_of as poll_of}
 use Rattle.ms_calls.specs.Methods.{method_named}
@@ -18,11 +21,13 @@ use Rattle.ms_structs.specs.declared.got.Got.{Got}
 use Rattle.ms_structs.specs.declared.got.Got.TheVariants as got
 use Rattle.ms_structs.specs.Slots.{only, said}
 use Rattle.table_structs.specs.Contexts.{context_of}
+use Rattle.table_structs.specs.PartRequests.{adding_of}
+use Rattle.table_structs.specs.Partitions.{partition_of}
 use Rattle.table_structs.specs.Requests.{request_of}
 use Rattle.table_structs.specs.Tables.{table_of}
-use Rattle.thrift_binary.specs.Codes.{bool_code, list_code, struct_code, text_code}
+use Rattle.thrift_binary.specs.Codes.{bool_code, i16_code, list_code, struct_code, text_code}
 use Rattle.thrift_binary.specs.Tree.{Fields}
-use Rattle.ms_structs.specs.Values.{flag_of, items_of, text_of}
+use Rattle.ms_structs.specs.Values.{flag_of, items_of, number_of, text_of}
 
 -- the name that the server has
 abbrev pub server_name : List ℕ
@@ -37,6 +42,10 @@ client (Err id) = BadArgument id
 abbrev pub plain : Result Reply ℤ → Asked
 plain (Ok reply) = Plain reply
 plain (Err id) = BadArgument id
+
+-- a name of a partition: what is answered of it, or the id of a wrong argument
+abbrev pub name_asked : OfName → Got (List ℕ) → Asked
+name_asked call name = plain (from_one name (name_reply call))
 
 -- ---- what is said of the argument with an id, by a value of the type that is wanted
 
@@ -60,6 +69,18 @@ database_at id v = said id struct_code database_of v
 abbrev pub table_at : ℤ → Fields → Got TableArg
 table_at id v = said id struct_code table_of v
 
+-- a number of two bytes
+abbrev pub limit_at : ℤ → Fields → Got ℤ
+limit_at id v = said id i16_code number_of v
+
+-- a Partition
+abbrev pub partition_at : ℤ → Fields → Got PartArg
+partition_at id v = said id struct_code partition_of v
+
+-- a list of Partitions
+abbrev pub partitions_at : ℤ → Fields → Got (List PartArg)
+partitions_at id v = said id list_code (items_of struct_code partition_of) v
+
 -- an EnvironmentContext
 abbrev pub context_at : ℤ → Fields → Got ⊤
 context_at id v = said id struct_code context_of v
@@ -72,6 +93,9 @@ asked_by (Some method.GetStatus) v = Plain (Number (pos 2))
 asked_by (Some method.Shutdown) v = Shutdown
 asked_by (Some method.SetUgi) v = plain (set_ugi_reply (text_at (pos 1) v) (texts_at (pos 2) v))
 asked_by (Some method.GetAllFunctions) v = Plain Nothing
+asked_by (Some method.PartitionNameHasValidCharacters) v = plain (has_valid_characters_reply (texts_at (pos 1) v) (flag_at (pos 2) v))
+asked_by (Some method.PartitionNameToVals) v = name_asked of_name.Vals (text_at (pos 1) v)
+asked_by (Some method.PartitionNameToSpec) v = name_asked of_name.Spec (text_at (pos 1) v)
 asked_by (Some method.CreateDatabase) v = client (create_database_call (database_at (pos 1) v))
 asked_by (Some method.GetDatabase) v = client (get_database_call (text_at (pos 1) v))
 asked_by (Some method.DropDatabase) v = client (drop_database_call (text_at (pos 1) v) (flag_at (pos 3) v))
@@ -91,6 +115,26 @@ asked_by (Some method.AlterTable) v = client (alter_table_call (text_at (pos 1) 
 asked_by (Some method.AlterTableWithEnvironmentContext) v = client (alter_table_call (text_at (pos 1) v) (text_at (pos 2) v) (table_at (pos 3) v) (context_at (pos 4) v))
 asked_by (Some method.GetFields) v = client (get_fields_call (text_at (pos 1) v) (text_at (pos 2) v))
 asked_by (Some method.GetSchema) v = client (get_schema_call (text_at (pos 1) v) (text_at (pos 2) v))
+asked_by (Some method.AddPartition) v = client (add_partition_call (partition_at (pos 1) v) got.Nothing)
+asked_by (Some method.AddPartitionWithEnvironmentContext) v = client (add_partition_call (partition_at (pos 1) v) (context_at (pos 2) v))
+asked_by (Some method.AddPartitions) v = client (add_partitions_call (partitions_at (pos 1) v))
+asked_by (Some method.AddPartitionsReq) v = client (add_partitions_req_call (said (pos 1) struct_code adding_of v))
+asked_by (Some method.AppendPartition) v = client (from_three (text_at (pos 1) v) (text_at (pos 2) v) (texts_at (pos 3) v) AppendPartition)
+asked_by (Some method.AppendPartitionByName) v = client (from_three (text_at (pos 1) v) (text_at (pos 2) v) (text_at (pos 3) v) AppendPartitionByName)
+asked_by (Some method.DropPartition) v = client (drop_partition_call (text_at (pos 1) v) (text_at (pos 2) v) (texts_at (pos 3) v) got.Nothing)
+asked_by (Some method.DropPartitionWithEnvironmentContext) v = client (drop_partition_call (text_at (pos 1) v) (text_at (pos 2) v) (texts_at (pos 3) v) (context_at (pos 5) v))
+asked_by (Some method.DropPartitionByName) v = client (from_three (text_at (pos 1) v) (text_at (pos 2) v) (text_at (pos 3) v) DropPartitionByName)
+asked_by (Some method.GetPartition) v = client (from_three (text_at (pos 1) v) (text_at (pos 2) v) (texts_at (pos 3) v) GetPartition)
+asked_by (Some method.GetPartitionByName) v = client (from_three (text_at (pos 1) v) (text_at (pos 2) v) (text_at (pos 3) v) GetPartitionByName)
+asked_by (Some method.GetPartitions) v = client (list_call (text_at (pos 1) v) (text_at (pos 2) v) (limit_at (pos 3) v) GetPartitions)
+asked_by (Some method.GetPartitionNames) v = client (list_call (text_at (pos 1) v) (text_at (pos 2) v) (limit_at (pos 3) v) GetPartitionNames)
+asked_by (Some method.GetPartitionsPs) v = client (list_ps_call (text_at (pos 1) v) (text_at (pos 2) v) (texts_at (pos 3) v) (limit_at (pos 4) v) GetPartitionsPs)
+asked_by (Some method.GetPartitionNamesPs) v = client (list_ps_call (text_at (pos 1) v) (text_at (pos 2) v) (texts_at (pos 3) v) (limit_at (pos 4) v) GetPartitionNamesPs)
+asked_by (Some method.GetPartitionsByNames) v = client (from_three (text_at (pos 1) v) (text_at (pos 2) v) (texts_at (pos 3) v) GetPartitionsByNames)
+asked_by (Some method.AlterPartition) v = client (alter_partition_call (text_at (pos 1) v) (text_at (pos 2) v) (partition_at (pos 3) v) got.Nothing)
+asked_by (Some method.AlterPartitionWithEnvironmentContext) v = client (alter_partition_call (text_at (pos 1) v) (text_at (pos 2) v) (partition_at (pos 3) v) (context_at (pos 4) v))
+asked_by (Some method.AlterPartitions) v = client (alter_partitions_call (text_at (pos 1) v) (text_at (pos 2) v) (partitions_at (pos 3) v))
+asked_by (Some method.RenamePartition) v = client (rename_partition_call (text_at (pos 1) v) (text_at (pos 2) v) (texts_at (pos 3) v) (partition_at (pos 4) v))
 asked_by (Some method.GetNextNotification) v = client (get_next_notification_call (said (pos 1) struct_code poll_of v))
 asked_by (Some method.GetCurrentNotificationEventId) v = Client GetCurrentNotificationEventId
 
@@ -132,9 +176,25 @@ IsMethodOf (GetTableObjectsByName db tables) named = named ≡ method.GetTableOb
 IsMethodOf (AlterTable db table new) named = (named ≡ method.AlterTable) ⊎ (named ≡ method.AlterTableWithEnvironmentContext)
 IsMethodOf (GetFields db table) named = named ≡ method.GetFields
 IsMethodOf (GetSchema db table) named = named ≡ method.GetSchema
+IsMethodOf (AddPartition part) named = (named ≡ method.AddPartition) ⊎ (named ≡ method.AddPartitionWithEnvironmentContext)
+IsMethodOf (AddPartitions parts) named = named ≡ method.AddPartitions
+IsMethodOf (AddPartitionsReq db table parts if_not_exists need_result) named = named ≡ method.AddPartitionsReq
+IsMethodOf (AppendPartition db table values) named = named ≡ method.AppendPartition
+IsMethodOf (AppendPartitionByName db table name) named = named ≡ method.AppendPartitionByName
+IsMethodOf (DropPartition db table values) named = (named ≡ method.DropPartition) ⊎ (named ≡ method.DropPartitionWithEnvironmentContext)
+IsMethodOf (DropPartitionByName db table name) named = named ≡ method.DropPartitionByName
+IsMethodOf (GetPartition db table values) named = named ≡ method.GetPartition
+IsMethodOf (GetPartitionByName db table name) named = named ≡ method.GetPartitionByName
+IsMethodOf (GetPartitions db table max) named = named ≡ method.GetPartitions
+IsMethodOf (GetPartitionNames db table max) named = named ≡ method.GetPartitionNames
+IsMethodOf (GetPartitionsPs db table values max) named = named ≡ method.GetPartitionsPs
+IsMethodOf (GetPartitionNamesPs db table values max) named = named ≡ method.GetPartitionNamesPs
+IsMethodOf (GetPartitionsByNames db table names) named = named ≡ method.GetPartitionsByNames
+IsMethodOf (AlterPartition db table part) named = (named ≡ method.AlterPartition) ⊎ (named ≡ method.AlterPartitionWithEnvironmentContext)
+IsMethodOf (AlterPartitions db table parts) named = named ≡ method.AlterPartitions
+IsMethodOf (RenamePartition db table values part) named = named ≡ method.RenamePartition
 IsMethodOf (GetNextNotification last max) named = named ≡ method.GetNextNotification
 IsMethodOf GetCurrentNotificationEventId named = named ≡ method.GetCurrentNotificationEventId
-IsMethodOf other named = ⊥
 
 -- a call of the catalogue came under a name that makes it
 abbrev pub CameAs : Option Method → Call → Type 0

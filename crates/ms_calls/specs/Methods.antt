@@ -6,7 +6,7 @@ use Rattle.ms_calls.specs.declared.exception.Exception.TheVariants.{AlreadyExist
 use Rattle.ms_calls.specs.declared.method.Method.{Method}
 use Rattle.ms_calls.specs.declared.method.Method.TheVariants as method
 use Rattle.ms_calls.specs.declared.method.ResultType.{ResultType}
-use Rattle.ms_calls.specs.declared.method.ResultType.TheVariants.{NoReply, NoField, EmptyStruct, OneText, TextList, Int, Database, OneTable, TableResult, TableList, ColumnList, Events, NewestEvent}
+use Rattle.ms_calls.specs.declared.method.ResultType.TheVariants.{NoReply, NoField, EmptyStruct, OneText, TextList, Flag, TextMap, Int, Database, OneTable, TableResult, TableList, ColumnList, OnePart, PartList, PartsResult, Events, NewestEvent}
 
 -- the call of the server itself whose messages have this name
 unfoldable pub server_named : List ℕ → Option Method
@@ -16,7 +16,10 @@ server_named name =
     else (if bytes_eq name (codes "shutdown") then Some method.Shutdown
     else (if bytes_eq name (codes "set_ugi") then Some method.SetUgi
     else (if bytes_eq name (codes "get_all_functions") then Some method.GetAllFunctions
-    else None))))
+    else (if bytes_eq name (codes "partition_name_has_valid_characters") then Some method.PartitionNameHasValidCharacters
+    else (if bytes_eq name (codes "partition_name_to_vals") then Some method.PartitionNameToVals
+    else (if bytes_eq name (codes "partition_name_to_spec") then Some method.PartitionNameToSpec
+    else None)))))))
 
 -- the call of databases whose messages have this name
 unfoldable pub database_named : List ℕ → Option Method
@@ -47,6 +50,36 @@ table_named name =
     else (if bytes_eq name (codes "get_schema") then Some method.GetSchema
     else None))))))))))))
 
+-- the call that adds or drops partitions whose messages have this name
+unfoldable pub new_part_named : List ℕ → Option Method
+new_part_named name =
+    if bytes_eq name (codes "add_partition") then Some method.AddPartition
+    else (if bytes_eq name (codes "add_partition_with_environment_context") then Some method.AddPartitionWithEnvironmentContext
+    else (if bytes_eq name (codes "add_partitions") then Some method.AddPartitions
+    else (if bytes_eq name (codes "add_partitions_req") then Some method.AddPartitionsReq
+    else (if bytes_eq name (codes "append_partition") then Some method.AppendPartition
+    else (if bytes_eq name (codes "append_partition_by_name") then Some method.AppendPartitionByName
+    else (if bytes_eq name (codes "drop_partition") then Some method.DropPartition
+    else (if bytes_eq name (codes "drop_partition_with_environment_context") then Some method.DropPartitionWithEnvironmentContext
+    else (if bytes_eq name (codes "drop_partition_by_name") then Some method.DropPartitionByName
+    else None))))))))
+
+-- the call that tells or alters partitions whose messages have this name
+unfoldable pub held_part_named : List ℕ → Option Method
+held_part_named name =
+    if bytes_eq name (codes "get_partition") then Some method.GetPartition
+    else (if bytes_eq name (codes "get_partition_by_name") then Some method.GetPartitionByName
+    else (if bytes_eq name (codes "get_partitions") then Some method.GetPartitions
+    else (if bytes_eq name (codes "get_partition_names") then Some method.GetPartitionNames
+    else (if bytes_eq name (codes "get_partitions_ps") then Some method.GetPartitionsPs
+    else (if bytes_eq name (codes "get_partition_names_ps") then Some method.GetPartitionNamesPs
+    else (if bytes_eq name (codes "get_partitions_by_names") then Some method.GetPartitionsByNames
+    else (if bytes_eq name (codes "alter_partition") then Some method.AlterPartition
+    else (if bytes_eq name (codes "alter_partition_with_environment_context") then Some method.AlterPartitionWithEnvironmentContext
+    else (if bytes_eq name (codes "alter_partitions") then Some method.AlterPartitions
+    else (if bytes_eq name (codes "rename_partition") then Some method.RenamePartition
+    else None))))))))))
+
 -- the call of events whose messages have this name
 unfoldable pub event_named : List ℕ → Option Method
 event_named name =
@@ -61,7 +94,7 @@ first_of None other = other
 
 -- the call whose messages have this name
 unfoldable pub method_named : List ℕ → Option Method
-method_named name = first_of (server_named name) (first_of (database_named name) (first_of (table_named name) (event_named name)))
+method_named name = first_of (server_named name) (first_of (database_named name) (first_of (table_named name) (first_of (new_part_named name) (first_of (held_part_named name) (event_named name)))))
 
 -- what a call results in
 abbrev pub result_type : Method → ResultType
@@ -70,6 +103,9 @@ result_type method.GetStatus = Int
 result_type method.Shutdown = NoReply
 result_type method.SetUgi = TextList
 result_type method.GetAllFunctions = EmptyStruct
+result_type method.PartitionNameHasValidCharacters = Flag
+result_type method.PartitionNameToVals = TextList
+result_type method.PartitionNameToSpec = TextMap
 result_type method.CreateDatabase = NoField
 result_type method.GetDatabase = Database
 result_type method.DropDatabase = NoField
@@ -89,6 +125,26 @@ result_type method.AlterTable = NoField
 result_type method.AlterTableWithEnvironmentContext = NoField
 result_type method.GetFields = ColumnList
 result_type method.GetSchema = ColumnList
+result_type method.AddPartition = OnePart
+result_type method.AddPartitionWithEnvironmentContext = OnePart
+result_type method.AddPartitions = Int
+result_type method.AddPartitionsReq = PartsResult
+result_type method.AppendPartition = OnePart
+result_type method.AppendPartitionByName = OnePart
+result_type method.DropPartition = Flag
+result_type method.DropPartitionWithEnvironmentContext = Flag
+result_type method.DropPartitionByName = Flag
+result_type method.GetPartition = OnePart
+result_type method.GetPartitionByName = OnePart
+result_type method.GetPartitions = PartList
+result_type method.GetPartitionNames = TextList
+result_type method.GetPartitionsPs = PartList
+result_type method.GetPartitionNamesPs = TextList
+result_type method.GetPartitionsByNames = PartList
+result_type method.AlterPartition = NoField
+result_type method.AlterPartitionWithEnvironmentContext = NoField
+result_type method.AlterPartitions = NoField
+result_type method.RenamePartition = NoField
 result_type method.GetNextNotification = Events
 result_type method.GetCurrentNotificationEventId = NewestEvent
 
@@ -99,6 +155,9 @@ exceptions_of method.GetStatus = []
 exceptions_of method.Shutdown = []
 exceptions_of method.SetUgi = Meta ∷ []
 exceptions_of method.GetAllFunctions = Meta ∷ []
+exceptions_of method.PartitionNameHasValidCharacters = Meta ∷ []
+exceptions_of method.PartitionNameToVals = Meta ∷ []
+exceptions_of method.PartitionNameToSpec = Meta ∷ []
 exceptions_of method.CreateDatabase = AlreadyExists ∷ InvalidObject ∷ Meta ∷ []
 exceptions_of method.GetDatabase = NoSuchObject ∷ Meta ∷ []
 exceptions_of method.DropDatabase = NoSuchObject ∷ InvalidOperation ∷ Meta ∷ []
@@ -118,5 +177,25 @@ exceptions_of method.AlterTable = InvalidOperation ∷ Meta ∷ []
 exceptions_of method.AlterTableWithEnvironmentContext = InvalidOperation ∷ Meta ∷ []
 exceptions_of method.GetFields = Meta ∷ []
 exceptions_of method.GetSchema = Meta ∷ []
+exceptions_of method.AddPartition = InvalidObject ∷ AlreadyExists ∷ Meta ∷ []
+exceptions_of method.AddPartitionWithEnvironmentContext = InvalidObject ∷ AlreadyExists ∷ Meta ∷ []
+exceptions_of method.AddPartitions = InvalidObject ∷ AlreadyExists ∷ Meta ∷ []
+exceptions_of method.AddPartitionsReq = InvalidObject ∷ AlreadyExists ∷ Meta ∷ []
+exceptions_of method.AppendPartition = InvalidObject ∷ AlreadyExists ∷ Meta ∷ []
+exceptions_of method.AppendPartitionByName = InvalidObject ∷ AlreadyExists ∷ Meta ∷ []
+exceptions_of method.DropPartition = NoSuchObject ∷ Meta ∷ []
+exceptions_of method.DropPartitionWithEnvironmentContext = NoSuchObject ∷ Meta ∷ []
+exceptions_of method.DropPartitionByName = NoSuchObject ∷ Meta ∷ []
+exceptions_of method.GetPartition = Meta ∷ NoSuchObject ∷ []
+exceptions_of method.GetPartitionByName = Meta ∷ NoSuchObject ∷ []
+exceptions_of method.GetPartitions = NoSuchObject ∷ Meta ∷ []
+exceptions_of method.GetPartitionNames = NoSuchObject ∷ Meta ∷ []
+exceptions_of method.GetPartitionsPs = Meta ∷ NoSuchObject ∷ []
+exceptions_of method.GetPartitionNamesPs = Meta ∷ NoSuchObject ∷ []
+exceptions_of method.GetPartitionsByNames = Meta ∷ NoSuchObject ∷ []
+exceptions_of method.AlterPartition = InvalidOperation ∷ Meta ∷ []
+exceptions_of method.AlterPartitionWithEnvironmentContext = InvalidOperation ∷ Meta ∷ []
+exceptions_of method.AlterPartitions = InvalidOperation ∷ Meta ∷ []
+exceptions_of method.RenamePartition = InvalidOperation ∷ Meta ∷ []
 exceptions_of method.GetNextNotification = Meta ∷ []
 exceptions_of method.GetCurrentNotificationEventId = Meta ∷ []

@@ -16,3 +16,6 @@ bad_argument id = Refused 10 (codes "bad argument " ++ signed_decimal id)
 
 abbrev pub out_of_memory : Reply
 out_of_memory = Refused 11 (codes "out of memory")
+
+abbrev pub invalid_request : Reply
+invalid_request = Refused 13 (codes "invalid request")

@@ -1,20 +1,23 @@
 -- The reply to a message: which replies a call can have, and how each is sent.
 use Rattle.std.specs.Prelude.{ℕ, List, [], ◌∷◌, map, Option, None, Some, IsSome, ℤ, pos}
+use Rattle.cat_types.specs.declared.named.NamedPart.{NamedPart}
 use Rattle.cat_types.specs.declared.named.NamedTable.{NamedTable}
 use Rattle.cat_types.specs.declared.replies.Reply.{Reply}
 use Rattle.cat_types.specs.declared.replies.Reply.TheVariants as reply
 use Rattle.thrift_binary.specs.Codes as codes
-use Rattle.thrift_binary.specs.Codes.{i32_code, list_code, struct_code, text_code}
+use Rattle.thrift_binary.specs.Codes.{bool_code, i32_code, list_code, map_code, struct_code, text_code}
 use Rattle.thrift_binary.specs.declared.head.Head.{Head}
-use Rattle.thrift_binary.specs.Tree.{Wire, Number, Bytes, Struct, Fields, NoFields, Field}
+use Rattle.thrift_binary.specs.Tree.{Wire, Flag, Number, Bytes, Struct, Fields, NoFields, Field}
 use Rattle.ms_calls.specs.declared.method.Method.{Method}
 use Rattle.ms_calls.specs.declared.method.ResultType.{ResultType}
 use Rattle.ms_calls.specs.declared.method.ResultType.TheVariants as of
 use Rattle.ms_calls.specs.Methods.{result_type}
 use Rattle.ms_calls.specs.Exceptions.{general_code, declared_id}
 use Rattle.ms_structs.specs.Notifications.{events_fields, newest_fields}
-use Rattle.ms_structs.specs.Written.{items_tree, texts_tree, database_fields}
+use Rattle.ms_structs.specs.Written.{items_tree, params_tree, texts_tree, database_fields}
 use Rattle.table_structs.specs.Columns.{column_tree}
+use Rattle.table_structs.specs.Partitions.{partition_tree}
+use Rattle.table_structs.specs.PartRequests.{partitions_result}
 use Rattle.table_structs.specs.Requests.{table_result}
 use Rattle.table_structs.specs.Tables.{table_tree}
 use Rattle.notify_log.specs.Messages.{message_text}
@@ -42,18 +45,30 @@ table_in_struct [] = None
 table_in_struct (table ∷ []) = Some (Field struct_code (pos 0) (table_result table) NoFields)
 table_in_struct (table ∷ more ∷ tables) = None
 
+-- one partition, as it stands under field 0; any other number of partitions is no result of one partition
+abbrev pub one_part : List NamedPart → Option Fields
+one_part [] = None
+one_part (part ∷ []) = Some (Field struct_code (pos 0) (partition_tree part) NoFields)
+one_part (part ∷ more ∷ parts) = None
+
 -- A result of this type stands under field 0; where there is none, so does no field. What is no result of the type has no fields to be sent as, so a result that is forgotten here can't be replied.
 abbrev pub result_fields : ResultType → Reply → Option Fields
 result_fields of.NoField reply.Nothing = Some NoFields
 result_fields of.EmptyStruct reply.Nothing = Some (Field struct_code (pos 0) (Struct NoFields) NoFields)
 result_fields of.OneText (reply.Names texts) = one_text texts
 result_fields of.TextList (reply.Names texts) = Some (Field list_code (pos 0) (texts_tree texts) NoFields)
+result_fields of.Flag (reply.Flag flag) = Some (Field bool_code (pos 0) (Flag flag) NoFields)
+result_fields of.TextMap (reply.Spec spec) = Some (Field map_code (pos 0) (params_tree spec) NoFields)
 result_fields of.Int (reply.Number number) = Some (Field i32_code (pos 0) (Number number) NoFields)
 result_fields of.Database (reply.Db name rec) = Some (Field struct_code (pos 0) (Struct (database_fields name rec)) NoFields)
 result_fields of.OneTable (reply.Tables tables) = one_table tables
 result_fields of.TableResult (reply.Tables tables) = table_in_struct tables
 result_fields of.TableList (reply.Tables tables) = Some (Field list_code (pos 0) (items_tree struct_code table_tree tables) NoFields)
 result_fields of.ColumnList (reply.Fields columns) = Some (Field list_code (pos 0) (items_tree struct_code column_tree columns) NoFields)
+result_fields of.OnePart (reply.Parts parts) = one_part parts
+result_fields of.PartList (reply.Parts parts) = Some (Field list_code (pos 0) (items_tree struct_code partition_tree parts) NoFields)
+result_fields of.PartsResult (reply.Parts parts) = Some (Field struct_code (pos 0) (partitions_result (Some parts)) NoFields)
+result_fields of.PartsResult reply.Nothing = Some (Field struct_code (pos 0) (partitions_result None) NoFields)
 result_fields of.Events (reply.Events events) = Some (Field struct_code (pos 0) (Struct (events_fields events (map message_text events))) NoFields)
 result_fields of.NewestEvent (reply.Big number) = Some (Field struct_code (pos 0) (Struct (newest_fields number)) NoFields)
 result_fields type reply = None

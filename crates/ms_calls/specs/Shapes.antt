@@ -7,6 +7,7 @@ use Rattle.ms_calls.specs.declared.slots.One.{One}
 use Rattle.ms_calls.specs.declared.slots.Two.{Two}
 use Rattle.ms_calls.specs.declared.slots.Three.{Three}
 use Rattle.ms_calls.specs.declared.slots.Four.{Four}
+use Rattle.ms_calls.specs.declared.slots.Five.{Five}
 use Rattle.thrift_binary.specs.Tree.{Fields, Wire}
 
 -- the slot for the id 1 before the first field
@@ -41,6 +42,14 @@ four_none = record { first = Nothing; second = Nothing; third = Nothing; fourth 
 abbrev pub four_set : {A B C D X Y Z U : Type 0} → ℕ → (Wire → Got X) → ℕ → (Wire → Got Y) → ℕ → (Wire → Got Z) → ℕ → (Wire → Got U) → Four A B C D X Y Z U → ℕ → ℤ → Wire → Four A B C D X Y Z U
 four_set code1 means1 code2 means2 code3 means3 code4 means4 f ty id w = record { first = slot (pos 1) code1 means1 f.first ty id w; second = slot (pos 2) code2 means2 f.second ty id w; third = slot (pos 3) code3 means3 f.third ty id w; fourth = slot (pos 4) code4 means4 f.fourth ty id w }
 
+-- the slots for the ids 1 to 5 before the first field
+abbrev pub five_none : {A B C D E X Y Z U V : Type 0} → Five A B C D E X Y Z U V
+five_none = record { first = Nothing; second = Nothing; third = Nothing; fourth = Nothing; fifth = Nothing }
+
+-- the slots for the ids 1 to 5 behind one more field, by the code and the meaning of each type
+abbrev pub five_set : {A B C D E X Y Z U V : Type 0} → ℕ → (Wire → Got X) → ℕ → (Wire → Got Y) → ℕ → (Wire → Got Z) → ℕ → (Wire → Got U) → ℕ → (Wire → Got V) → Five A B C D E X Y Z U V → ℕ → ℤ → Wire → Five A B C D E X Y Z U V
+five_set code1 means1 code2 means2 code3 means3 code4 means4 code5 means5 f ty id w = record { first = slot (pos 1) code1 means1 f.first ty id w; second = slot (pos 2) code2 means2 f.second ty id w; third = slot (pos 3) code3 means3 f.third ty id w; fourth = slot (pos 4) code4 means4 f.fourth ty id w; fifth = slot (pos 5) code5 means5 f.fifth ty id w }
+
 -- what the slot for the id 1 holds behind these fields: what is said under the id
 abbrev pub one_says : {A X : Type 0} → ℕ → (Wire → Got X) → Fields → One A X
 one_says code1 means1 v = record { first = said (pos 1) code1 means1 v }
@@ -56,3 +65,7 @@ three_says code1 means1 code2 means2 code3 means3 v = record { first = said (pos
 -- what the slots for the ids 1 to 4 hold behind these fields: what is said under each id
 abbrev pub four_says : {A B C D X Y Z U : Type 0} → ℕ → (Wire → Got X) → ℕ → (Wire → Got Y) → ℕ → (Wire → Got Z) → ℕ → (Wire → Got U) → Fields → Four A B C D X Y Z U
 four_says code1 means1 code2 means2 code3 means3 code4 means4 v = record { first = said (pos 1) code1 means1 v; second = said (pos 2) code2 means2 v; third = said (pos 3) code3 means3 v; fourth = said (pos 4) code4 means4 v }
+
+-- what the slots for the ids 1 to 5 hold behind these fields: what is said under each id
+abbrev pub five_says : {A B C D E X Y Z U V : Type 0} → ℕ → (Wire → Got X) → ℕ → (Wire → Got Y) → ℕ → (Wire → Got Z) → ℕ → (Wire → Got U) → ℕ → (Wire → Got V) → Fields → Five A B C D E X Y Z U V
+five_says code1 means1 code2 means2 code3 means3 code4 means4 code5 means5 v = record { first = said (pos 1) code1 means1 v; second = said (pos 2) code2 means2 v; third = said (pos 3) code3 means3 v; fourth = said (pos 4) code4 means4 v; fifth = said (pos 5) code5 means5 v }

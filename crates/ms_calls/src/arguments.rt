@@ -3,7 +3,7 @@
 ghost use Rattle.std.specs.Prelude.{◌≡◌, ◌≤◌, ℤ, None, Result, IsErrOf};
 ghost use Rattle.cat_types.specs.declared.calls.Call.{Call};
 ghost use Rattle.hms_outside.specs.Causes.{Rose, StaysBut};
-ghost use Rattle.ms_calls.specs.Arguments.{given, needed, needed_three, needed_two, with_context};
+ghost use Rattle.ms_calls.specs.Arguments.{from_four, given, needed, needed_three, needed_two, with_context};
 ghost use Rattle.ms_calls.specs.Asked.{client};
 ghost use Rattle.ms_structs.specs.Getting.{ReadsTree};
 ghost use Rattle.thrift_binary.specs.Codes.{struct_code};
@@ -81,6 +81,21 @@ pub fn needed_three<A: Drop, B: Drop, C: Drop>(
     let second = needed(2, second)?;
     let third = needed(3, third)?;
     Ok((first, second, third))
+}
+
+/// Four arguments that must be there, with the ids from 1 to 4; or else the least id of one that
+/// isn't.
+pub fn needed_four<A: Drop, B: Drop, C: Drop, D: Drop>(
+    first: Got<A>,
+    second: Got<B>,
+    third: Got<C>,
+    fourth: Got<D>,
+) -> Result<(A, B, C, D), i16>
+    ensures { result ≡ from_four first second third fourth (λ a b c d. (a, b, c, d)) }
+{
+    let (first, second, third) = needed_three(first, second, third)?;
+    let fourth = needed(4, fourth)?;
+    Ok((first, second, third, fourth))
 }
 
 /// An argument that may be absent, and then has this value; or its id, where a text in it isn't

@@ -3,10 +3,10 @@
 ghost use Rattle.std.specs.Prelude.{◌≡◌, ◌≤◌, [], ◌∷◌, None, IfOk, IsErrOf, OnOk, pos};
 ghost use Rattle.hms_outside.specs.Causes.{Rose, StaysBut};
 ghost use Rattle.cat_types.specs.declared.replies.Reply.TheVariants.{Names};
-ghost use Rattle.ms_calls.specs.Arguments.{set_ugi_reply};
-ghost use Rattle.ms_calls.specs.Asked.{CameAs, IfClient, IfPlain, asked_by, asked_of, plain, server_name, text_at, texts_at};
+ghost use Rattle.ms_calls.specs.Arguments.{has_valid_characters_reply, set_ugi_reply};
+ghost use Rattle.ms_calls.specs.Asked.{CameAs, IfClient, IfPlain, asked_by, asked_of, flag_at, name_asked, plain, server_name, text_at, texts_at};
 ghost use Rattle.ms_calls.specs.Methods.{method_named};
-ghost use Rattle.ms_calls.specs.Plans.{bare_asked, planned, planned_on_database, planned_on_table};
+ghost use Rattle.ms_calls.specs.Plans.{bare_asked, planned, planned_on_database, planned_on_partition, planned_on_table};
 ghost use Rattle.ms_calls.specs.Replies.{CanReply};
 ghost use Rattle.ms_structs.specs.Getting.{ReadsTree};
 ghost use Rattle.thrift_binary.specs.Codes.{struct_code};
@@ -15,10 +15,16 @@ ghost use Rattle.thrift_binary.specs.Wire.{IsWire, StopsWire};
 
 use crate::arguments::read_call;
 use crate::databases::{AlterDatabase, CreateDatabase, DropDatabase};
+use crate::of_partitions::{OfFirstValues, OfLimit, OfPartName, OfValues};
 use crate::of_texts::{OfText, OfTwoTexts};
-use crate::plan::{Bare, OnDatabase, OnTable, Plan, plan_of};
+use crate::part_texts::{OfName, has_valid_characters};
+use crate::partitions::{
+    AddPartition, AddPartitionWithContext, AddPartitions, AddPartitionsReq, AlterPartition,
+    AlterPartitionWithContext, AlterPartitions, DropPartitionWithContext, RenamePartition,
+};
+use crate::plan::{Bare, OnDatabase, OnPartition, OnTable, Plan, plan_of};
 use crate::server::{GetNextNotification, server_name, set_ugi};
-use crate::slots::{Shape, Two};
+use crate::slots::{One, Shape, Two};
 use crate::tables::{
     AlterTable, AlterTableWithContext, CreateTable, CreateTableWithContext, DropTableWithContext,
     GetTableObjectsByName, GetTableReq,
@@ -103,6 +109,13 @@ fn read_plan<S: Source>(
         Plan::OfTwoTexts(call) => read_call::<OfTwoTexts, S>(alloc, call, reader),
         Plan::OnDatabase(call) => read_database_call(alloc, call, reader),
         Plan::OnTable(call) => read_table_call(alloc, call, reader),
+        Plan::OfName(call) => ask_name(alloc, call, reader),
+        Plan::HasValidCharacters => ask_valid_characters(alloc, reader),
+        Plan::OfValues(call) => read_call::<OfValues, S>(alloc, call, reader),
+        Plan::OfPartName(call) => read_call::<OfPartName, S>(alloc, call, reader),
+        Plan::OfLimit(call) => read_call::<OfLimit, S>(alloc, call, reader),
+        Plan::OfFirstValues(call) => read_call::<OfFirstValues, S>(alloc, call, reader),
+        Plan::OnPartition(call) => read_partition_call(alloc, call, reader),
         Plan::GetNextNotification => read_call::<GetNextNotification, S>(
             alloc,
             GetNextNotification,
@@ -169,6 +182,59 @@ fn read_table_call<S: Source>(
     }
 }
 
+// Reads the arguments of a call with partitions, a request or a context.
+fn read_partition_call<S: Source>(
+    alloc: Global,
+    call: OnPartition,
+    reader: &mut WireReader<'_, S>,
+) -> Result<Asked, WireFault>
+    ensures same_source { reader.new.source.ghost_name ≡ reader.old.source.ghost_name }
+    ensures later { S.faults reader.old.source.now ≤ S.faults reader.new.source.now }
+    ensures cause { reader.old.progress.fault ≡ None → IsErrOf result WireFault.ReadFault → Rose (S.faults reader.old.source.now) (S.faults reader.new.source.now) }
+    ensures stays { StaysBut WireFault.ReadFault result (S.faults reader.old.source.now) (S.faults reader.new.source.now) }
+    ensures reads { ReadsTree (S.left reader.old.source.now) (S.left reader.new.source.now) reader.old.progress reader.new.progress result (λ v. IsWire (Struct v) reader.old.progress.room struct_code) (λ v asked. asked ≡ planned_on_partition call v) (StopsWire reader.old.progress.room struct_code) }
+{
+    match call {
+        OnPartition::AddPartition => read_call::<AddPartition, S>(alloc, AddPartition, reader),
+        OnPartition::AddPartitionWithContext => read_call::<AddPartitionWithContext, S>(
+            alloc,
+            AddPartitionWithContext,
+            reader,
+        ),
+        OnPartition::AddPartitions => read_call::<AddPartitions, S>(alloc, AddPartitions, reader),
+        OnPartition::AddPartitionsReq => read_call::<AddPartitionsReq, S>(
+            alloc,
+            AddPartitionsReq,
+            reader,
+        ),
+        OnPartition::DropPartitionWithContext => read_call::<DropPartitionWithContext, S>(
+            alloc,
+            DropPartitionWithContext,
+            reader,
+        ),
+        OnPartition::AlterPartition => read_call::<AlterPartition, S>(
+            alloc,
+            AlterPartition,
+            reader,
+        ),
+        OnPartition::AlterPartitionWithContext => read_call::<AlterPartitionWithContext, S>(
+            alloc,
+            AlterPartitionWithContext,
+            reader,
+        ),
+        OnPartition::AlterPartitions => read_call::<AlterPartitions, S>(
+            alloc,
+            AlterPartitions,
+            reader,
+        ),
+        OnPartition::RenamePartition => read_call::<RenamePartition, S>(
+            alloc,
+            RenamePartition,
+            reader,
+        ),
+    }
+}
+
 // Skips the argument struct of a message that asks for the same whatever its arguments are.
 fn skip_arguments<S: Source>(bare: Bare, reader: &mut WireReader<'_, S>) -> Result<Asked, WireFault>
     ensures same_source { reader.new.source.ghost_name ≡ reader.old.source.ghost_name }
@@ -209,6 +275,43 @@ fn ask_set_ugi<S: Source>(alloc: Global, reader: &mut WireReader<'_, S>) -> Resu
 {
     let slots = Two::<Text, Texts>::read::<S>(alloc, reader)?;
     match set_ugi(alloc, slots.first, slots.second) {
+        Ok(asked) => Ok(asked),
+        Err(NoMemory) => Err(reader.refused()),
+    }
+}
+
+// Reads the arguments of a call on the name of a partition.
+fn ask_name<S: Source>(
+    alloc: Global,
+    call: OfName,
+    reader: &mut WireReader<'_, S>,
+) -> Result<Asked, WireFault>
+    ensures same_source { reader.new.source.ghost_name ≡ reader.old.source.ghost_name }
+    ensures later { S.faults reader.old.source.now ≤ S.faults reader.new.source.now }
+    ensures cause { reader.old.progress.fault ≡ None → IsErrOf result WireFault.ReadFault → Rose (S.faults reader.old.source.now) (S.faults reader.new.source.now) }
+    ensures stays { StaysBut WireFault.ReadFault result (S.faults reader.old.source.now) (S.faults reader.new.source.now) }
+    ensures reads { ReadsTree (S.left reader.old.source.now) (S.left reader.new.source.now) reader.old.progress reader.new.progress result (λ v. IsWire (Struct v) reader.old.progress.room struct_code) (λ v asked. asked ≡ name_asked call (text_at (pos 1) v)) (StopsWire reader.old.progress.room struct_code) }
+{
+    let slots = One::<Text>::read::<S>(alloc, reader)?;
+    match call.asked(alloc, slots.first) {
+        Ok(asked) => Ok(asked),
+        Err(NoMemory) => Err(reader.refused()),
+    }
+}
+
+// Reads the arguments of the call that asks whether values are valid.
+fn ask_valid_characters<S: Source>(
+    alloc: Global,
+    reader: &mut WireReader<'_, S>,
+) -> Result<Asked, WireFault>
+    ensures same_source { reader.new.source.ghost_name ≡ reader.old.source.ghost_name }
+    ensures later { S.faults reader.old.source.now ≤ S.faults reader.new.source.now }
+    ensures cause { reader.old.progress.fault ≡ None → IsErrOf result WireFault.ReadFault → Rose (S.faults reader.old.source.now) (S.faults reader.new.source.now) }
+    ensures stays { StaysBut WireFault.ReadFault result (S.faults reader.old.source.now) (S.faults reader.new.source.now) }
+    ensures reads { ReadsTree (S.left reader.old.source.now) (S.left reader.new.source.now) reader.old.progress reader.new.progress result (λ v. IsWire (Struct v) reader.old.progress.room struct_code) (λ v asked. asked ≡ plain (has_valid_characters_reply (texts_at (pos 1) v) (flag_at (pos 2) v))) (StopsWire reader.old.progress.room struct_code) }
+{
+    let slots = Two::<Texts, bool>::read::<S>(alloc, reader)?;
+    match has_valid_characters(alloc, slots.first, slots.second) {
         Ok(asked) => Ok(asked),
         Err(NoMemory) => Err(reader.refused()),
     }

@@ -1,7 +1,7 @@
 //! The calls that are known.
 
 ghost use Rattle.std.specs.Prelude.{◌≡◌, ◌<◌, length};
-ghost use Rattle.ms_calls.specs.Methods.{database_named, event_named, exceptions_of, method_named, result_type, server_named, table_named};
+ghost use Rattle.ms_calls.specs.Methods.{database_named, event_named, exceptions_of, held_part_named, method_named, new_part_named, result_type, server_named, table_named};
 
 use crate::Exception;
 
@@ -13,6 +13,9 @@ pub enum Method {
     Shutdown,
     SetUgi,
     GetAllFunctions,
+    PartitionNameHasValidCharacters,
+    PartitionNameToVals,
+    PartitionNameToSpec,
     CreateDatabase,
     GetDatabase,
     DropDatabase,
@@ -32,6 +35,26 @@ pub enum Method {
     AlterTableWithEnvironmentContext,
     GetFields,
     GetSchema,
+    AddPartition,
+    AddPartitionWithEnvironmentContext,
+    AddPartitions,
+    AddPartitionsReq,
+    AppendPartition,
+    AppendPartitionByName,
+    DropPartition,
+    DropPartitionWithEnvironmentContext,
+    DropPartitionByName,
+    GetPartition,
+    GetPartitionByName,
+    GetPartitions,
+    GetPartitionNames,
+    GetPartitionsPs,
+    GetPartitionNamesPs,
+    GetPartitionsByNames,
+    AlterPartition,
+    AlterPartitionWithEnvironmentContext,
+    AlterPartitions,
+    RenamePartition,
     GetNextNotification,
     GetCurrentNotificationEventId,
 }
@@ -49,6 +72,10 @@ pub enum ResultType {
     OneText,
     /// A list of texts.
     TextList,
+    /// Yes or no.
+    Flag,
+    /// A map from texts to texts.
+    TextMap,
     /// A number of four bytes.
     Int,
     /// A database.
@@ -61,6 +88,12 @@ pub enum ResultType {
     TableList,
     /// A list of columns.
     ColumnList,
+    /// One partition.
+    OnePart,
+    /// A list of partitions.
+    PartList,
+    /// A struct with a list of partitions in it, or without one.
+    PartsResult,
     /// Events, each with its message.
     Events,
     /// The number of the newest event.
@@ -81,6 +114,12 @@ pub fn method_named(name: &str) -> Option<Method>
     if let Some(method) = table_named(name) {
         return Some(method);
     }
+    if let Some(method) = new_part_named(name) {
+        return Some(method);
+    }
+    if let Some(method) = held_part_named(name) {
+        return Some(method);
+    }
     event_named(name)
 }
 
@@ -95,6 +134,9 @@ fn server_named(name: &str) -> Option<Method>
         "shutdown" => Some(Method::Shutdown),
         "set_ugi" => Some(Method::SetUgi),
         "get_all_functions" => Some(Method::GetAllFunctions),
+        "partition_name_has_valid_characters" => Some(Method::PartitionNameHasValidCharacters),
+        "partition_name_to_vals" => Some(Method::PartitionNameToVals),
+        "partition_name_to_spec" => Some(Method::PartitionNameToSpec),
         _ => None,
     }
 }
@@ -138,6 +180,52 @@ fn table_named(name: &str) -> Option<Method>
     }
 }
 
+// The call that adds or drops partitions whose messages have this name.
+#[tactic(auto, unfolding(crate::specs::Methods::new_part_named))]
+fn new_part_named(name: &str) -> Option<Method>
+    ensures { result ≡ new_part_named name.now }
+{
+    match name {
+        "add_partition" => Some(Method::AddPartition),
+        "add_partition_with_environment_context" => Some(
+            Method::AddPartitionWithEnvironmentContext,
+        ),
+        "add_partitions" => Some(Method::AddPartitions),
+        "add_partitions_req" => Some(Method::AddPartitionsReq),
+        "append_partition" => Some(Method::AppendPartition),
+        "append_partition_by_name" => Some(Method::AppendPartitionByName),
+        "drop_partition" => Some(Method::DropPartition),
+        "drop_partition_with_environment_context" => Some(
+            Method::DropPartitionWithEnvironmentContext,
+        ),
+        "drop_partition_by_name" => Some(Method::DropPartitionByName),
+        _ => None,
+    }
+}
+
+// The call that tells or alters partitions whose messages have this name.
+#[tactic(auto, unfolding(crate::specs::Methods::held_part_named))]
+fn held_part_named(name: &str) -> Option<Method>
+    ensures { result ≡ held_part_named name.now }
+{
+    match name {
+        "get_partition" => Some(Method::GetPartition),
+        "get_partition_by_name" => Some(Method::GetPartitionByName),
+        "get_partitions" => Some(Method::GetPartitions),
+        "get_partition_names" => Some(Method::GetPartitionNames),
+        "get_partitions_ps" => Some(Method::GetPartitionsPs),
+        "get_partition_names_ps" => Some(Method::GetPartitionNamesPs),
+        "get_partitions_by_names" => Some(Method::GetPartitionsByNames),
+        "alter_partition" => Some(Method::AlterPartition),
+        "alter_partition_with_environment_context" => Some(
+            Method::AlterPartitionWithEnvironmentContext,
+        ),
+        "alter_partitions" => Some(Method::AlterPartitions),
+        "rename_partition" => Some(Method::RenamePartition),
+        _ => None,
+    }
+}
+
 // The call of events whose messages have this name.
 #[tactic(auto, unfolding(crate::specs::Methods::event_named))]
 fn event_named(name: &str) -> Option<Method>
@@ -157,13 +245,21 @@ impl Method {
     {
         match self {
             Method::GetName => ResultType::OneText,
-            Method::GetStatus => ResultType::Int,
+            Method::GetStatus | Method::AddPartitions => ResultType::Int,
             Method::Shutdown => ResultType::NoReply,
             Method::SetUgi
+            | Method::PartitionNameToVals
             | Method::GetDatabases
             | Method::GetAllDatabases
             | Method::GetTables
-            | Method::GetAllTables => ResultType::TextList,
+            | Method::GetAllTables
+            | Method::GetPartitionNames
+            | Method::GetPartitionNamesPs => ResultType::TextList,
+            Method::PartitionNameHasValidCharacters
+            | Method::DropPartition
+            | Method::DropPartitionWithEnvironmentContext
+            | Method::DropPartitionByName => ResultType::Flag,
+            Method::PartitionNameToSpec => ResultType::TextMap,
             Method::GetAllFunctions => ResultType::EmptyStruct,
             Method::CreateDatabase
             | Method::DropDatabase
@@ -173,12 +269,26 @@ impl Method {
             | Method::DropTable
             | Method::DropTableWithEnvironmentContext
             | Method::AlterTable
-            | Method::AlterTableWithEnvironmentContext => ResultType::NoField,
+            | Method::AlterTableWithEnvironmentContext
+            | Method::AlterPartition
+            | Method::AlterPartitionWithEnvironmentContext
+            | Method::AlterPartitions
+            | Method::RenamePartition => ResultType::NoField,
             Method::GetDatabase => ResultType::Database,
             Method::GetTable => ResultType::OneTable,
             Method::GetTableReq => ResultType::TableResult,
             Method::GetTableObjectsByName => ResultType::TableList,
             Method::GetFields | Method::GetSchema => ResultType::ColumnList,
+            Method::AddPartition
+            | Method::AddPartitionWithEnvironmentContext
+            | Method::AppendPartition
+            | Method::AppendPartitionByName
+            | Method::GetPartition
+            | Method::GetPartitionByName => ResultType::OnePart,
+            Method::AddPartitionsReq => ResultType::PartsResult,
+            Method::GetPartitions | Method::GetPartitionsPs | Method::GetPartitionsByNames => {
+                ResultType::PartList
+            }
             Method::GetNextNotification => ResultType::Events,
             Method::GetCurrentNotificationEventId => ResultType::NewestEvent,
         }
@@ -193,6 +303,9 @@ impl Method {
             Method::GetName | Method::GetStatus | Method::Shutdown => &[],
             Method::SetUgi
             | Method::GetAllFunctions
+            | Method::PartitionNameHasValidCharacters
+            | Method::PartitionNameToVals
+            | Method::PartitionNameToSpec
             | Method::GetDatabases
             | Method::GetAllDatabases
             | Method::GetTables
@@ -207,29 +320,49 @@ impl Method {
                 Exception::InvalidObject,
                 Exception::Meta,
             ],
-            Method::GetDatabase | Method::DropTable | Method::DropTableWithEnvironmentContext => &[
-                Exception::NoSuchObject,
-                Exception::Meta,
-            ],
+            Method::GetDatabase
+            | Method::DropTable
+            | Method::DropTableWithEnvironmentContext
+            | Method::DropPartition
+            | Method::DropPartitionWithEnvironmentContext
+            | Method::DropPartitionByName
+            | Method::GetPartitions
+            | Method::GetPartitionNames => &[Exception::NoSuchObject, Exception::Meta],
             Method::DropDatabase => &[
                 Exception::NoSuchObject,
                 Exception::InvalidOperation,
                 Exception::Meta,
             ],
-            Method::AlterDatabase | Method::GetTable | Method::GetTableReq => &[
-                Exception::Meta,
-                Exception::NoSuchObject,
-            ],
+            Method::AlterDatabase
+            | Method::GetTable
+            | Method::GetTableReq
+            | Method::GetPartition
+            | Method::GetPartitionByName
+            | Method::GetPartitionsPs
+            | Method::GetPartitionNamesPs
+            | Method::GetPartitionsByNames => &[Exception::Meta, Exception::NoSuchObject],
             Method::CreateTable | Method::CreateTableWithEnvironmentContext => &[
                 Exception::AlreadyExists,
                 Exception::InvalidObject,
                 Exception::Meta,
                 Exception::NoSuchObject,
             ],
-            Method::AlterTable | Method::AlterTableWithEnvironmentContext => &[
-                Exception::InvalidOperation,
+            Method::AddPartition
+            | Method::AddPartitionWithEnvironmentContext
+            | Method::AddPartitions
+            | Method::AddPartitionsReq
+            | Method::AppendPartition
+            | Method::AppendPartitionByName => &[
+                Exception::InvalidObject,
+                Exception::AlreadyExists,
                 Exception::Meta,
             ],
+            Method::AlterTable
+            | Method::AlterTableWithEnvironmentContext
+            | Method::AlterPartition
+            | Method::AlterPartitionWithEnvironmentContext
+            | Method::AlterPartitions
+            | Method::RenamePartition => &[Exception::InvalidOperation, Exception::Meta],
         }
     }
 }

@@ -5,7 +5,9 @@ ghost use Rattle.ms_calls.specs.Asked.{asked_by};
 ghost use Rattle.ms_calls.specs.Plans.{bare_asked, planned};
 ghost use Rattle.thrift_binary.specs.Tree.{Fields};
 
+use crate::of_partitions::{OfFirstValues, OfLimit, OfPartName, OfValues};
 use crate::of_texts::{OfText, OfTwoTexts};
+use crate::part_texts::OfName;
 use crate::{Asked, Method};
 use cat_types::{Call, Reply};
 
@@ -20,6 +22,13 @@ pub enum Plan {
     OfTwoTexts(OfTwoTexts),
     OnDatabase(OnDatabase),
     OnTable(OnTable),
+    OfName(OfName),
+    HasValidCharacters,
+    OfValues(OfValues),
+    OfPartName(OfPartName),
+    OfLimit(OfLimit),
+    OfFirstValues(OfFirstValues),
+    OnPartition(OnPartition),
     GetNextNotification,
 }
 
@@ -54,6 +63,20 @@ pub enum OnTable {
     AlterTableWithContext,
 }
 
+/// A call on partitions whose arguments have a shape of their own.
+#[derive(Clone, Copy)]
+pub enum OnPartition {
+    AddPartition,
+    AddPartitionWithContext,
+    AddPartitions,
+    AddPartitionsReq,
+    DropPartitionWithContext,
+    AlterPartition,
+    AlterPartitionWithContext,
+    AlterPartitions,
+    RenamePartition,
+}
+
 impl Bare {
     /// What is asked.
     pub fn asked(self) -> Asked
@@ -84,6 +107,9 @@ pub fn plan_of(method: Option<Method>) -> Plan
         Some(Method::Shutdown) => Plan::Bare(Bare::Shutdown),
         Some(Method::SetUgi) => Plan::SetUgi,
         Some(Method::GetAllFunctions) => Plan::Bare(Bare::GetAllFunctions),
+        Some(Method::PartitionNameHasValidCharacters) => Plan::HasValidCharacters,
+        Some(Method::PartitionNameToVals) => Plan::OfName(OfName::Vals),
+        Some(Method::PartitionNameToSpec) => Plan::OfName(OfName::Spec),
         Some(Method::CreateDatabase) => Plan::OnDatabase(OnDatabase::CreateDatabase),
         Some(Method::GetDatabase) => Plan::OfText(OfText::GetDatabase),
         Some(Method::DropDatabase) => Plan::OnDatabase(OnDatabase::DropDatabase),
@@ -109,6 +135,34 @@ pub fn plan_of(method: Option<Method>) -> Plan
         }
         Some(Method::GetFields) => Plan::OfTwoTexts(OfTwoTexts::GetFields),
         Some(Method::GetSchema) => Plan::OfTwoTexts(OfTwoTexts::GetSchema),
+        Some(Method::AddPartition) => Plan::OnPartition(OnPartition::AddPartition),
+        Some(Method::AddPartitionWithEnvironmentContext) => Plan::OnPartition(
+            OnPartition::AddPartitionWithContext,
+        ),
+        Some(Method::AddPartitions) => Plan::OnPartition(OnPartition::AddPartitions),
+        Some(Method::AddPartitionsReq) => Plan::OnPartition(OnPartition::AddPartitionsReq),
+        Some(Method::AppendPartition) => Plan::OfValues(OfValues::AppendPartition),
+        Some(Method::AppendPartitionByName) => Plan::OfPartName(OfPartName::AppendPartitionByName),
+        Some(Method::DropPartition) => Plan::OfValues(OfValues::DropPartition),
+        Some(Method::DropPartitionWithEnvironmentContext) => Plan::OnPartition(
+            OnPartition::DropPartitionWithContext,
+        ),
+        Some(Method::DropPartitionByName) => Plan::OfPartName(OfPartName::DropPartitionByName),
+        Some(Method::GetPartition) => Plan::OfValues(OfValues::GetPartition),
+        Some(Method::GetPartitionByName) => Plan::OfPartName(OfPartName::GetPartitionByName),
+        Some(Method::GetPartitions) => Plan::OfLimit(OfLimit::GetPartitions),
+        Some(Method::GetPartitionNames) => Plan::OfLimit(OfLimit::GetPartitionNames),
+        Some(Method::GetPartitionsPs) => Plan::OfFirstValues(OfFirstValues::GetPartitionsPs),
+        Some(Method::GetPartitionNamesPs) => Plan::OfFirstValues(
+            OfFirstValues::GetPartitionNamesPs,
+        ),
+        Some(Method::GetPartitionsByNames) => Plan::OfValues(OfValues::GetPartitionsByNames),
+        Some(Method::AlterPartition) => Plan::OnPartition(OnPartition::AlterPartition),
+        Some(Method::AlterPartitionWithEnvironmentContext) => Plan::OnPartition(
+            OnPartition::AlterPartitionWithContext,
+        ),
+        Some(Method::AlterPartitions) => Plan::OnPartition(OnPartition::AlterPartitions),
+        Some(Method::RenamePartition) => Plan::OnPartition(OnPartition::RenamePartition),
         Some(Method::GetNextNotification) => Plan::GetNextNotification,
         Some(Method::GetCurrentNotificationEventId) => {
             Plan::Bare(Bare::GetCurrentNotificationEventId)

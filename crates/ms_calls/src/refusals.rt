@@ -1,7 +1,7 @@
 //! Refusals that no catalogue decides.
 
 ghost use Rattle.std.specs.Prelude.{◌≡◌, IfOk};
-ghost use Rattle.ms_calls.specs.Refusals.{bad_argument, out_of_memory, store_fault, unknown_method};
+ghost use Rattle.ms_calls.specs.Refusals.{bad_argument, invalid_request, out_of_memory, store_fault, unknown_method};
 ghost use Rattle.cat_types.specs.declared.replies.Reply.TheVariants.{Refused};
 
 use cat_types::{NoMemory, Reply, Text};
@@ -44,4 +44,11 @@ pub fn store_fault(alloc: Global) -> Result<Reply, NoMemory>
     ensures { IfOk result (λ reply. reply ≡ store_fault) }
 {
     refused(alloc, 8, "store fault")
+}
+
+/// The answer to a request that asks for what can't be, as the values of a name that can't be read.
+pub fn invalid_request(alloc: Global) -> Result<Reply, NoMemory>
+    ensures { IfOk result (λ reply. reply ≡ invalid_request) }
+{
+    refused(alloc, 13, "invalid request")
 }

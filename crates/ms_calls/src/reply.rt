@@ -1,29 +1,38 @@
 //! Replies to messages.
 
 ghost use Rattle.std.specs.Prelude.{◌≡◌, ◌==◌, IfOk, IsSome, map, pos};
-ghost use Rattle.thrift_binary.specs.Codes.{list_code, oneway_kind, struct_code};
+ghost use Rattle.std.specs.Option.{option_copied};
+ghost use Rattle.thrift_binary.specs.Codes.{list_code, map_code, oneway_kind, struct_code};
 ghost use Rattle.thrift_binary.specs.Sending.{Gathers};
 ghost use Rattle.thrift_binary.specs.Strict.{fields_bytes, message_bytes, wire_bytes};
 ghost use Rattle.thrift_binary.specs.Tree.{Field, NoFields, Struct};
 ghost use Rattle.ms_structs.specs.Notifications.{events_fields, newest_fields};
-ghost use Rattle.ms_structs.specs.Written.{items_tree};
+ghost use Rattle.ms_structs.specs.Written.{items_tree, params_tree};
 ghost use Rattle.table_structs.specs.Columns.{column_tree};
+ghost use Rattle.table_structs.specs.PartRequests.{partitions_result};
+ghost use Rattle.table_structs.specs.Partitions.{partition_tree};
 ghost use Rattle.table_structs.specs.Requests.{table_result};
 ghost use Rattle.table_structs.specs.Tables.{table_tree};
 ghost use Rattle.notify_log.specs.Messages.{message_text};
 ghost use Rattle.ms_calls.specs.Methods.{method_named};
-ghost use Rattle.ms_calls.specs.Replies.{CanReply, declared_fields, exception_tree, general_fields, one_table, one_text, or_none, refused_as, reply_fields, reply_head, reply_kind, result_fields, table_in_struct};
+ghost use Rattle.ms_calls.specs.Replies.{CanReply, declared_fields, exception_tree, general_fields, one_part, one_table, one_text, or_none, refused_as, reply_fields, reply_head, reply_kind, result_fields, table_in_struct};
 
 use crate::exception::{declared_id, general_code};
 use crate::{Method, ResultType, method_named};
-use cat_types::{Columns, Event, Events, ListOf, NamedTable, NoMemory, Reply, Tables, Text, Texts};
+use cat_types::{
+    Columns, Event, Events, ListOf, NamedPart, NamedTable, NoMemory, Params, Parts, Reply, Tables,
+    Text, Texts,
+};
 use ms_structs::{
-    put_list, put_texts, write_current_notification_event_id, write_database,
+    ToWire, put_list, put_texts, write_current_notification_event_id, write_database,
     write_get_all_functions_response, write_notification_event_response,
 };
 use notify_log::message;
 use std::alloc::Global;
-use table_structs::{ColumnFields, TableFields, write_get_table_result, write_table};
+use table_structs::{
+    ColumnFields, PartitionFields, TableFields, write_add_partitions_result,
+    write_get_table_result, write_partition, write_table,
+};
 use thrift_binary::{Head, WireWriter, message_kind, type_code};
 
 /// Whether the sender of a message wants no reply.
@@ -124,6 +133,11 @@ fn put_result(
             writer.field(type_code::LIST, 0)?;
             put_texts(writer, texts.as_slice())
         }
+        (ResultType::Flag, Reply::Flag(flag)) => {
+            writer.field(type_code::BOOL, 0)?;
+            writer.flag(*flag)
+        }
+        (ResultType::TextMap, Reply::Spec(spec)) => put_spec(writer, spec),
         (ResultType::Int, Reply::Number(number)) => {
             writer.field(type_code::I32, 0)?;
             writer.int(*number)
@@ -136,6 +150,10 @@ fn put_result(
         (ResultType::TableResult, Reply::Tables(tables)) => put_table_in_struct(writer, tables),
         (ResultType::TableList, Reply::Tables(tables)) => put_tables(writer, tables),
         (ResultType::ColumnList, Reply::Fields(columns)) => put_columns(writer, columns),
+        (ResultType::OnePart, Reply::Parts(parts)) => put_one_part(writer, parts),
+        (ResultType::PartList, Reply::Parts(parts)) => put_parts(writer, parts),
+        (ResultType::PartsResult, Reply::Parts(parts)) => put_parts_result(writer, Some(parts)),
+        (ResultType::PartsResult, Reply::Nothing) => put_parts_result(writer, None),
         (ResultType::Events, Reply::Events(events)) => put_events(alloc, writer, events),
         (ResultType::NewestEvent, Reply::Big(number)) => put_newest(writer, *number),
         _ => unreachable!(),
@@ -206,6 +224,49 @@ fn put_columns(writer: &mut WireWriter, columns: &Columns) -> Result<(), NoMemor
 {
     writer.field(type_code::LIST, 0)?;
     put_list::<ColumnFields>(writer, columns.as_slice())
+}
+
+// A map from texts to texts, under field 0.
+fn put_spec(writer: &mut WireWriter, spec: &Params) -> Result<(), NoMemory>
+    ensures { Gathers writer.old writer.new result (fields_bytes (Field map_code (pos 0) (params_tree spec.now) NoFields)) }
+{
+    writer.field(type_code::MAP, 0)?;
+    Params::write(writer, spec)
+}
+
+// The one partition of a list, under field 0.
+fn put_one_part(writer: &mut WireWriter, parts: &Parts) -> Result<(), NoMemory>
+    requires { IsSome (one_part parts.now) }
+    ensures { Gathers writer.old writer.new result (fields_bytes (or_none (one_part parts.now))) }
+{
+    let [part] = parts.as_slice() else {
+        unreachable!()
+    };
+    put_part(writer, part)
+}
+
+// A partition, under field 0.
+fn put_part(writer: &mut WireWriter, part: &NamedPart) -> Result<(), NoMemory>
+    ensures { Gathers writer.old writer.new result (fields_bytes (Field struct_code (pos 0) (partition_tree part.now) NoFields)) }
+{
+    writer.field(type_code::STRUCT, 0)?;
+    write_partition(writer, part)
+}
+
+// A list of partitions, under field 0.
+fn put_parts(writer: &mut WireWriter, parts: &Parts) -> Result<(), NoMemory>
+    ensures { Gathers writer.old writer.new result (fields_bytes (Field list_code (pos 0) (items_tree struct_code partition_tree parts.now) NoFields)) }
+{
+    writer.field(type_code::LIST, 0)?;
+    put_list::<PartitionFields>(writer, parts.as_slice())
+}
+
+// A list of partitions in a struct, or the struct without it, under field 0.
+fn put_parts_result(writer: &mut WireWriter, parts: Option<&Parts>) -> Result<(), NoMemory>
+    ensures { Gathers writer.old writer.new result (fields_bytes (Field struct_code (pos 0) (partitions_result (option_copied parts.entry)) NoFields)) }
+{
+    writer.field(type_code::STRUCT, 0)?;
+    write_add_partitions_result(writer, parts)
 }
 
 // Events with their messages, under field 0.

@@ -3,7 +3,7 @@
 ghost use Rattle.std.specs.Prelude.{◌≡◌, ℕ, ℤ, ◌≤◌, None, IsErrOf};
 ghost use Rattle.hms_outside.specs.Causes.{Rose, StaysBut};
 ghost use Rattle.ms_structs.specs.Getting.{ReadsTree};
-ghost use Rattle.ms_calls.specs.Shapes.{four_none, four_says, four_set, one_none, one_says, one_set, three_none, three_says, three_set, two_none, two_says, two_set};
+ghost use Rattle.ms_calls.specs.Shapes.{five_none, five_says, five_set, four_none, four_says, four_set, one_none, one_says, one_set, three_none, three_says, three_set, two_none, two_says, two_set};
 ghost use Rattle.thrift_binary.specs.Codes.{struct_code};
 ghost use Rattle.thrift_binary.specs.Tree.{Fields, Struct, Wire};
 ghost use Rattle.thrift_binary.specs.Wire.{IsWire, StopsWire};
@@ -207,5 +207,61 @@ impl<A: FromWire, B: FromWire, C: FromWire, D: FromWire> Shape for Four<A, B, C,
         reader: &mut WireReader<'_, S>,
     ) -> Result<Four<A, B, C, D>, WireFault> {
         read_slots::<Four<A, B, C, D>, S>(alloc, reader)
+    }
+}
+
+/// Slots for the fields with the ids 1 to 5.
+#[derive(Drop)]
+pub struct Five<A: FromWire, B: FromWire, C: FromWire, D: FromWire, E: FromWire> {
+    pub first: Got<A::Value>,
+    pub second: Got<B::Value>,
+    pub third: Got<C::Value>,
+    pub fourth: Got<D::Value>,
+    pub fifth: Got<E::Value>,
+}
+
+impl<A: FromWire, B: FromWire, C: FromWire, D: FromWire, E: FromWire> FieldSink
+    for Five<A, B, C, D, E> {
+    ghost none = { five_none };
+
+    ghost set = { five_set A.CODE A.means B.CODE B.means C.CODE C.means D.CODE D.means E.CODE E.means };
+
+    fn empty() -> Five<A, B, C, D, E> {
+        Five {
+            first: Got::Nothing,
+            second: Got::Nothing,
+            third: Got::Nothing,
+            fourth: Got::Nothing,
+            fifth: Got::Nothing,
+        }
+    }
+
+    fn take<S: Source>(
+        &mut self,
+        alloc: Global,
+        reader: &mut WireReader<'_, S>,
+        ty: u8,
+        id: i16,
+    ) -> Result<(), WireFault> {
+        match id {
+            1 => self.first.take_as::<A, S>(alloc, reader, ty),
+            2 => self.second.take_as::<B, S>(alloc, reader, ty),
+            3 => self.third.take_as::<C, S>(alloc, reader, ty),
+            4 => self.fourth.take_as::<D, S>(alloc, reader, ty),
+            5 => self.fifth.take_as::<E, S>(alloc, reader, ty),
+            _ => skip_field(reader, ty),
+        }
+    }
+}
+
+impl<A: FromWire, B: FromWire, C: FromWire, D: FromWire, E: FromWire> Shape
+    for Five<A, B, C, D, E> {
+    ghost says = { five_says A.CODE A.means B.CODE B.means C.CODE C.means D.CODE D.means E.CODE E.means };
+
+    fn read<S: Source>(
+        alloc: Global,
+        reader: &mut WireReader<'_, S>,
+    ) -> Result<Five<A, B, C, D, E>, WireFault> {
+        read_slots::<Five<A, B, C, D, E>, S>(alloc, reader)
     }
 }

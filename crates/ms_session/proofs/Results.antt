@@ -1,9 +1,11 @@
 -- What a store answers to a call is a reply that the call can have.
 use Rattle.std.proofs.Common.{◌≡◌, ◌&&◌, ℕ, Bool, true, false, not, nat_lt, List, [], ◌∷◌, ◌++◌, map, Option, Some, None, is_some, IsSome, IfOk, Result, Ok, Err, ℤ, inl, inr, refl, sym, ap, subst}
 use Rattle.std.proofs.lemmas.Bool.{false≢true}
-use Rattle.std.specs.Prelude.{◌+◌, cond}
+use Rattle.std.specs.Prelude.{◌+◌, cond, if◌then◌else◌}
+use Rattle.cat_values.specs.declared.records.PartRec.{PartRec}
+use Rattle.cat_types.specs.declared.arguments.PartArg.{PartArg}
 use Rattle.cat_types.specs.declared.calls.Call.{Call}
-use Rattle.cat_types.specs.declared.calls.Call.TheVariants.{AlterDatabase, AlterTable, CreateDatabase, CreateTable, DropDatabase, DropTable, GetAllDatabases, GetAllTables, GetCurrentNotificationEventId, GetDatabase, GetDatabases, GetFields, GetNextNotification, GetSchema, GetTable, GetTableObjectsByName, GetTableReq, GetTables}
+use Rattle.cat_types.specs.declared.calls.Call.TheVariants.{AddPartition, AddPartitions, AddPartitionsReq, AlterDatabase, AlterPartition, AlterPartitions, AlterTable, AppendPartition, AppendPartitionByName, CreateDatabase, CreateTable, DropDatabase, DropPartition, DropPartitionByName, DropTable, GetAllDatabases, GetAllTables, GetCurrentNotificationEventId, GetDatabase, GetDatabases, GetFields, GetNextNotification, GetPartition, GetPartitionByName, GetPartitionNames, GetPartitionNamesPs, GetPartitions, GetPartitionsByNames, GetPartitionsPs, GetSchema, GetTable, GetTableObjectsByName, GetTableReq, GetTables, RenamePartition}
 use Rattle.cat_types.specs.declared.changes.Change.{Change}
 use Rattle.cat_types.specs.declared.replies.Reply.{Reply}
 use Rattle.cat_types.specs.declared.replies.Reply.TheVariants.{Refused}
@@ -11,17 +13,22 @@ use Rattle.cat_types.specs.declared.steps.Answer.{Answer}
 use Rattle.cat_types.specs.declared.steps.Answer.TheVariants as answer
 use Rattle.cat_types.specs.declared.steps.Step.{Step}
 use Rattle.cat_types.specs.declared.steps.Step.TheVariants as step
-use Rattle.cat_objects.specs.Catalogue.{Catalogue, database, table}
+use Rattle.cat_objects.specs.Catalogue.{Catalogue, database, has_database, has_table, parts_of, table}
 use Rattle.cat_objects.specs.Changes.{has_operation}
-use Rattle.catalogue.specs.Databases.{Rule, kept_name, shown_as}
+use Rattle.cat_objects.specs.Parts.{at_values}
+use Rattle.cat_objects.specs.declared.held.HeldTable.{HeldTable}
+use Rattle.catalogue.specs.Databases.{Rule, is_replica, kept_name, shown_as}
 use Rattle.catalogue.specs.Decisions.{decided_by}
+use Rattle.catalogue.specs.PartChanges.{add_list_rules, add_partitions_rules, append_partition_rules, appended, appended_as, behind, count_added, each_added_rules, each_altered_rules, is_elsewhere, is_full, is_taken, list_told, may_have, new_part_rules, one_added_rules, told_if}
+use Rattle.catalogue.specs.Partitions.{Meaning, all_named, by_name, by_values, holds_meant, may_mean, meant_values, part_as, stored_values, table_keys}
 use Rattle.catalogue.specs.Polls.{poll_of}
 use Rattle.catalogue.specs.Refusals.{refusal_reply}
 use Rattle.catalogue.specs.Rules.{breaks, change, first_broken, first_refusal, lacks_number, requested_table, result_of, rules_of}
-use Rattle.catalogue.specs.Tables.{columns_as, get_table_req_rules, schema_as, table_as}
+use Rattle.catalogue.specs.Tables.{columns_as, get_table_req_rules, names_database, names_table, schema_as, table_as}
+use Rattle.catalogue.specs.declared.bars.Bars.{Bars}
 use Rattle.catalogue.specs.declared.poll.Poll.{Poll}
 use Rattle.catalogue.specs.declared.refusal.Refusal.{Refusal}
-use Rattle.catalogue.specs.declared.refusal.Refusal.TheVariants.{EventNumbersUsedUp, InvalidRequest, NoSuchObject}
+use Rattle.catalogue.specs.declared.refusal.Refusal.TheVariants.{AlreadyExists, EventNumbersUsedUp, InvalidObject, InvalidOperation, InvalidRequest, IsReplica, NoSuchObject}
 use Rattle.desk.specs.History.{Entry, IsLegal, Legal, MayFollow, Point, Start, next, point_of, took}
 use Rattle.desk.specs.State.{MayAnswer, State, bars_of, decision_of, reply_by, reply_in as due_reply}
 use Rattle.ms_calls.specs.declared.method.Method.{Method}
@@ -29,7 +36,8 @@ use Rattle.ms_calls.specs.declared.method.Method.TheVariants as method
 use Rattle.ms_calls.specs.Asked.{CameAs, IsMethodOf}
 use Rattle.ms_calls.specs.Exceptions.{declared_id, general_code}
 use Rattle.ms_calls.specs.Refusals.{out_of_memory, store_fault}
-use Rattle.ms_calls.specs.Replies.{CanReply, fields_of_reply, refused_as}
+use Rattle.ms_calls.specs.Replies.{CanReply, fields_of_reply, one_part, refused_as, result_fields}
+use Rattle.ms_calls.specs.declared.method.ResultType.TheVariants as of
 use Rattle.ms_session.specs.Turns.{IsReplyTo}
 
 -- ---- results of calls
@@ -116,6 +124,106 @@ requested cat (Some db) None is = absurd cc
 requested cat (Some db) (Some name) is =
     found method.GetTableReq (table cat (kept_name (Some db)) (kept_name (Some name))) NoSuchObject (λ held. table_as held (kept_name (Some db)) (kept_name (Some name))) (λ held. refl) is
 
+-- the one partition that was asked for, where the one rule is that it is there
+part_found : (m : Method) (held : Option HeldTable) (meant : Meaning) (db name : List ℕ) → ((rec : PartRec) → CanReply (Some m) (part_as (Some rec) db name (meant_values meant))) → first_broken ((not (holds_meant held meant), NoSuchObject) ∷ []) ≡ None
+    → CanReply (Some m) (part_as (at_values (meant_values meant) (parts_of held)) db name (meant_values meant))
+part_found m None meant db name can is = absurd cc
+part_found m (Some held) meant db name can is = by_test (may_mean held.rec.keys meant) (at_values (meant_values meant) held.parts) is
+  where
+    by_test : (may : Bool) (there : Option PartRec) → first_broken ((not (may && is_some there), NoSuchObject) ∷ []) ≡ None → CanReply (Some m) (part_as there db name (meant_values meant))
+    by_test true (Some rec) fine = can rec
+    by_test true None fine = absurd cc
+    by_test false there fine = absurd cc
+
+-- ---- partitions that are added
+
+-- a first rule that isn't broken, and those behind it
+unbroken : (rule : Rule) (rules : List Rule) → first_broken (rule ∷ rules) ≡ None → (rule.0 ≡ false) × (first_broken rules ≡ None)
+unbroken rule rules is = by_test rule.0 is
+  where
+    by_test : (b : Bool) → cond b (Some rule.1) (first_broken rules) ≡ None → (b ≡ false) × (first_broken rules ≡ None)
+    by_test true same = absurd cc
+    by_test false same = (refl, same)
+
+-- one partition alone is added, or passed over
+one_alone : (db name : List ℕ) (values : List (List ℕ)) (rec : PartRec) (taken : Bool) → (taken && true) ≡ false → IsSome (one_part (all_named db name ((if taken then [] else (values, rec) ∷ []) ++ [])))
+one_alone db name values rec true free = absurd (false≢true (sym free))
+one_alone db name values rec false free = refl
+
+-- the one partition that was added, where no rule of adding it is broken
+added_alone : (cat : Catalogue) (bars : Bars) (part : PartArg) (moment : ℕ) → first_broken (add_list_rules true false cat bars part.db part.table (part ∷ [])) ≡ None → IsSome (result_fields of.OnePart (list_told (told_if true) cat part.db part.table (part ∷ []) moment))
+added_alone cat bars part moment fine =
+    let db = kept_name part.db in
+    let name = kept_name part.table in
+    let held = table cat db name in
+    let values = stored_values part.values in
+    let rest = each_added_rules true false held db name (behind held [] values) [] in
+    let full = (not (is_taken held [] values) && is_full held [], InvalidObject) ∷ rest in
+    let taken = (is_taken held [] values && true, AlreadyExists) ∷ full in
+    let having = (not (may_have held values), InvalidObject) ∷ taken in
+    let elsewhere = (is_elsewhere true db name part, InvalidObject) ∷ having in
+    let there = (not (names_table cat part.db part.table), InvalidObject) ∷ elsewhere in
+    let replica = (is_replica bars db, IsReplica) ∷ there in
+    let one = unbroken (not (names_database cat part.db), InvalidObject) replica fine in
+    let two = unbroken (is_replica bars db, IsReplica) there one.1 in
+    let three = unbroken (not (names_table cat part.db part.table), InvalidObject) elsewhere two.1 in
+    let four = unbroken (is_elsewhere true db name part, InvalidObject) having three.1 in
+    let five = unbroken (not (may_have held values), InvalidObject) taken four.1 in
+    let six = unbroken (is_taken held [] values && true, AlreadyExists) full five.1 in
+    one_alone db name values _ (is_taken held [] values) six.0
+
+-- the one partition that was appended, where its table is there
+appended_alone : (db name : List ℕ) (values : List (List ℕ)) (moment : ℕ) (held : Option HeldTable) → not (is_some held) ≡ false → IsSome (one_part (all_named db name (appended held values moment)))
+appended_alone db name values moment None there = absurd (false≢true (sym there))
+appended_alone db name values moment (Some held) there = refl
+
+appended_fine : (cat : Catalogue) (bars : Bars) (db name : List ℕ) (meant : Meaning) (values : List (List ℕ)) (moment : ℕ) → first_broken (append_partition_rules cat bars db name meant) ≡ None → IsSome (result_fields of.OnePart (appended_as cat db name values moment))
+appended_fine cat bars db name meant values moment fine =
+    let others = (not (may_mean (table_keys (table cat db name)) meant), InvalidObject) ∷ new_part_rules (table cat db name) (meant_values meant) in
+    let there = (not (has_table cat db name), InvalidObject) ∷ others in
+    let replica = (is_replica bars db, IsReplica) ∷ there in
+    let one = unbroken (not (has_database cat db), InvalidObject) replica fine in
+    let two = unbroken (is_replica bars db, IsReplica) there one.1 in
+    let three = unbroken (not (has_table cat db name), InvalidObject) others two.1 in
+    appended_alone db name values moment (table cat db name) three.0
+
+-- how many were added can be told
+counted : (cat : Catalogue) (parts : List PartArg) (moment : ℕ) → CanReply (Some method.AddPartitions) (count_added cat parts moment)
+counted cat [] moment = refl
+counted cat (first ∷ more) moment = refl
+
+-- those that were added can be told, and nothing of them too
+told_or_not : (cat : Catalogue) (db name : Option (List ℕ)) (parts : List PartArg) (moment : ℕ) (wanted : Bool) → CanReply (Some method.AddPartitionsReq) (list_told (told_if wanted) cat db name parts moment)
+told_or_not cat db name parts moment true = refl
+told_or_not cat db name parts moment false = refl
+
+-- ---- rules of lists
+
+-- a call can be answered each refusal of two lists of rules
+tells_both : (m : Method) (rules more : List Rule) → tells_all m rules ≡ true → tells_all m more ≡ true → tells_all m (rules ++ more) ≡ true
+tells_both m [] more one two = two
+tells_both m (rule ∷ rules) more one two =
+    let each = both (tells m rule.1) (tells_all m rules) one in
+    λ i. each.0 i && tells_both m rules more each.1 two i
+
+-- so each of those for the partitions of a list
+tells_added : (m : Method) (needs passes : Bool) (held : Option HeldTable) (db name : List ℕ) (earlier : List (List (List ℕ))) (parts : List PartArg) → tells m InvalidObject ≡ true → tells m AlreadyExists ≡ true
+    → tells_all m (each_added_rules needs passes held db name earlier parts) ≡ true
+tells_added m needs passes held db name earlier [] object exists = refl
+tells_added m needs passes held db name earlier (new ∷ more) object exists =
+    tells_both m (one_added_rules needs passes held db name earlier new) (each_added_rules needs passes held db name (behind held earlier (stored_values new.values)) more)
+    (λ i. object i && (object i && (exists i && (object i && true))))
+    (tells_added m needs passes held db name (behind held earlier (stored_values new.values)) more object exists)
+
+tells_altered : (m : Method) (held : Option HeldTable) (earlier : List (List (List ℕ))) (parts : List PartArg) → tells m InvalidOperation ≡ true → tells_all m (each_altered_rules held earlier parts) ≡ true
+tells_altered m held earlier [] operation = refl
+tells_altered m held earlier (new ∷ more) operation = λ i. operation i && (operation i && (operation i && tells_altered m held (earlier ++ stored_values new.values ∷ []) more operation i))
+
+-- partitions without a table of their own
+tells_many : (cat : Catalogue) (bars : Bars) (parts : List PartArg) → tells_all method.AddPartitions (add_partitions_rules cat bars parts) ≡ true
+tells_many cat bars [] = refl
+tells_many cat bars (first ∷ more) = tells_added method.AddPartitions true false (table cat (kept_name first.db) (kept_name first.table)) (kept_name first.db) (kept_name first.table) [] (first ∷ more) refl refl
+
 -- ---- calls
 
 -- what a message with this method can be answered: a fault of the store, and what is due to the call
@@ -131,6 +239,10 @@ by_rules s call moment m none fault all one can = record {
   due = subst (λ (o : Option Poll). CanReply (Some m) (due_reply s o (decision_of s call moment))) (sym none)
       (decided m (rules_of s.catalogue (bars_of s) call) (change s.catalogue (bars_of s) call moment (s.newest + 1)) (s.newest + 1) (result_of s.catalogue (bars_of s) call moment (s.newest + 1)) all one can);
 }
+
+-- the same under the name under which the call came
+named : (s : State) (call : Call) (moment : ℕ) (m n : Method) → n ≡ m → Can s call moment m → Can s call moment n
+named s call moment m n is can = subst (λ (n : Method). Can s call moment n) (sym is) can
 
 by_method : (s : State) (call : Call) (moment : ℕ) (m : Method) → IsMethodOf call m → Can s call moment m
 by_method s GetAllDatabases moment m is = subst (λ (n : Method). Can s GetAllDatabases moment n) (sym is) (by_rules s GetAllDatabases moment method.GetAllDatabases refl refl refl refl (λ none. refl))
@@ -152,6 +264,26 @@ by_method s (AlterTable db name new) moment m (inl is) = subst (λ (n : Method).
 by_method s (AlterTable db name new) moment m (inr is) = subst (λ (n : Method). Can s (AlterTable db name new) moment n) (sym is) (by_rules s (AlterTable db name new) moment method.AlterTableWithEnvironmentContext refl refl refl refl (λ none. refl))
 by_method s (GetFields db name) moment m is = subst (λ (n : Method). Can s (GetFields db name) moment n) (sym is) (by_rules s (GetFields db name) moment method.GetFields refl refl refl refl (found method.GetFields (table s.catalogue (kept_name (Some db)) (kept_name (Some name))) InvalidRequest columns_as (λ held. refl)))
 by_method s (GetSchema db name) moment m is = subst (λ (n : Method). Can s (GetSchema db name) moment n) (sym is) (by_rules s (GetSchema db name) moment method.GetSchema refl refl refl refl (found method.GetSchema (table s.catalogue (kept_name (Some db)) (kept_name (Some name))) InvalidRequest schema_as (λ held. refl)))
+by_method s (AddPartition part) moment m (inl is) = named s (AddPartition part) moment method.AddPartition m is (by_rules s (AddPartition part) moment method.AddPartition refl refl (tells_added method.AddPartition true false (table s.catalogue (kept_name part.db) (kept_name part.table)) (kept_name part.db) (kept_name part.table) [] (part ∷ []) refl refl) refl (added_alone s.catalogue (bars_of s) part moment))
+by_method s (AddPartition part) moment m (inr is) = named s (AddPartition part) moment method.AddPartitionWithEnvironmentContext m is (by_rules s (AddPartition part) moment method.AddPartitionWithEnvironmentContext refl refl (tells_added method.AddPartitionWithEnvironmentContext true false (table s.catalogue (kept_name part.db) (kept_name part.table)) (kept_name part.db) (kept_name part.table) [] (part ∷ []) refl refl) refl (added_alone s.catalogue (bars_of s) part moment))
+by_method s (AddPartitions parts) moment m is = named s (AddPartitions parts) moment method.AddPartitions m is (by_rules s (AddPartitions parts) moment method.AddPartitions refl refl (tells_many s.catalogue (bars_of s) parts) refl (λ none. counted s.catalogue parts moment))
+by_method s (AddPartitionsReq db name parts passes wanted) moment m is = named s (AddPartitionsReq db name parts passes wanted) moment method.AddPartitionsReq m is (by_rules s (AddPartitionsReq db name parts passes wanted) moment method.AddPartitionsReq refl refl (tells_added method.AddPartitionsReq false passes (table s.catalogue (kept_name db) (kept_name name)) (kept_name db) (kept_name name) [] parts refl refl) refl (λ none. told_or_not s.catalogue db name parts moment wanted))
+by_method s (AppendPartition db name values) moment m is = named s (AppendPartition db name values) moment method.AppendPartition m is (by_rules s (AppendPartition db name values) moment method.AppendPartition refl refl (refl) refl (appended_fine s.catalogue (bars_of s) (kept_name (Some db)) (kept_name (Some name)) (by_values values) (meant_values (by_values values)) moment))
+by_method s (AppendPartitionByName db name called) moment m is = named s (AppendPartitionByName db name called) moment method.AppendPartitionByName m is (by_rules s (AppendPartitionByName db name called) moment method.AppendPartitionByName refl refl (refl) refl (appended_fine s.catalogue (bars_of s) (kept_name (Some db)) (kept_name (Some name)) (by_name called) (meant_values (by_name called)) moment))
+by_method s (DropPartition db name values) moment m (inl is) = named s (DropPartition db name values) moment method.DropPartition m is (by_rules s (DropPartition db name values) moment method.DropPartition refl refl (refl) refl (λ none. refl))
+by_method s (DropPartition db name values) moment m (inr is) = named s (DropPartition db name values) moment method.DropPartitionWithEnvironmentContext m is (by_rules s (DropPartition db name values) moment method.DropPartitionWithEnvironmentContext refl refl (refl) refl (λ none. refl))
+by_method s (DropPartitionByName db name called) moment m is = named s (DropPartitionByName db name called) moment method.DropPartitionByName m is (by_rules s (DropPartitionByName db name called) moment method.DropPartitionByName refl refl (refl) refl (λ none. refl))
+by_method s (GetPartition db name values) moment m is = named s (GetPartition db name values) moment method.GetPartition m is (by_rules s (GetPartition db name values) moment method.GetPartition refl refl (refl) refl (part_found method.GetPartition (table s.catalogue (kept_name (Some db)) (kept_name (Some name))) (by_values values) (kept_name (Some db)) (kept_name (Some name)) (λ rec. refl)))
+by_method s (GetPartitionByName db name called) moment m is = named s (GetPartitionByName db name called) moment method.GetPartitionByName m is (by_rules s (GetPartitionByName db name called) moment method.GetPartitionByName refl refl (refl) refl (part_found method.GetPartitionByName (table s.catalogue (kept_name (Some db)) (kept_name (Some name))) (by_name called) (kept_name (Some db)) (kept_name (Some name)) (λ rec. refl)))
+by_method s (GetPartitions db name max) moment m is = named s (GetPartitions db name max) moment method.GetPartitions m is (by_rules s (GetPartitions db name max) moment method.GetPartitions refl refl (refl) refl (λ none. refl))
+by_method s (GetPartitionNames db name max) moment m is = named s (GetPartitionNames db name max) moment method.GetPartitionNames m is (by_rules s (GetPartitionNames db name max) moment method.GetPartitionNames refl refl (refl) refl (λ none. refl))
+by_method s (GetPartitionsPs db name values max) moment m is = named s (GetPartitionsPs db name values max) moment method.GetPartitionsPs m is (by_rules s (GetPartitionsPs db name values max) moment method.GetPartitionsPs refl refl (refl) refl (λ none. refl))
+by_method s (GetPartitionNamesPs db name values max) moment m is = named s (GetPartitionNamesPs db name values max) moment method.GetPartitionNamesPs m is (by_rules s (GetPartitionNamesPs db name values max) moment method.GetPartitionNamesPs refl refl (refl) refl (λ none. refl))
+by_method s (GetPartitionsByNames db name names) moment m is = named s (GetPartitionsByNames db name names) moment method.GetPartitionsByNames m is (by_rules s (GetPartitionsByNames db name names) moment method.GetPartitionsByNames refl refl (refl) refl (λ none. refl))
+by_method s (AlterPartition db name part) moment m (inl is) = named s (AlterPartition db name part) moment method.AlterPartition m is (by_rules s (AlterPartition db name part) moment method.AlterPartition refl refl (refl) refl (λ none. refl))
+by_method s (AlterPartition db name part) moment m (inr is) = named s (AlterPartition db name part) moment method.AlterPartitionWithEnvironmentContext m is (by_rules s (AlterPartition db name part) moment method.AlterPartitionWithEnvironmentContext refl refl (refl) refl (λ none. refl))
+by_method s (AlterPartitions db name parts) moment m is = named s (AlterPartitions db name parts) moment method.AlterPartitions m is (by_rules s (AlterPartitions db name parts) moment method.AlterPartitions refl refl (tells_altered method.AlterPartitions (table s.catalogue (kept_name (Some db)) (kept_name (Some name))) [] parts refl) refl (λ none. refl))
+by_method s (RenamePartition db name values part) moment m is = named s (RenamePartition db name values part) moment method.RenamePartition m is (by_rules s (RenamePartition db name values part) moment method.RenamePartition refl refl (refl) refl (λ none. refl))
 by_method s (GetNextNotification last max) moment m is = subst (λ (n : Method). Can s (GetNextNotification last max) moment n) (sym is) (record { fault = refl; due = refl })
 by_method s GetCurrentNotificationEventId moment m is = subst (λ (n : Method). Can s GetCurrentNotificationEventId moment n) (sym is) (record { fault = refl; due = refl })
 

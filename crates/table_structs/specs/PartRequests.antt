@@ -47,10 +47,10 @@ adding_made = made_of adding_whole adding_set adding_none
 unfoldable pub adding_of : Wire → Got Call
 adding_of = struct_of adding_whole adding_set adding_none
 
--- the fields of the result: 1 the partitions, where they are to be told
-abbrev pub partitions_written : Option (List NamedPart) → List OwnField
-partitions_written parts = if_any (pos 1) list_code (items_tree struct_code partition_tree) parts ∷ []
+-- the one field of the result: 1 the partitions, where they are to be told
+abbrev pub partitions_field : Option (List NamedPart) → OwnField
+partitions_field = if_any (pos 1) list_code (items_tree struct_code partition_tree)
 
 -- the struct that answers a request
 abbrev pub partitions_result : Option (List NamedPart) → Wire
-partitions_result parts = Struct (fields_of (partitions_written parts))
+partitions_result parts = Struct (fields_of (partitions_field parts ∷ []))

@@ -4,7 +4,8 @@ ghost use Rattle.std.specs.Prelude.{◌≡◌, ℕ, ℤ, ◌≤◌, None, IsErrO
 ghost use Rattle.std.specs.Option.{option_copied};
 ghost use Rattle.hms_outside.specs.Causes.{Rose, StaysBut};
 ghost use Rattle.ms_structs.specs.Getting.{Makes};
-ghost use Rattle.table_structs.specs.PartRequests.{adding_from, adding_is_bad, adding_made, adding_none, adding_of, adding_set, adding_whole, partitions_result};
+ghost use Rattle.ms_structs.specs.Written.{field_spelled};
+ghost use Rattle.table_structs.specs.PartRequests.{adding_from, adding_is_bad, adding_made, adding_none, adding_of, adding_set, adding_whole, partitions_field, partitions_result};
 ghost use Rattle.thrift_binary.specs.Codes.{struct_code};
 ghost use Rattle.thrift_binary.specs.Sending.{Gathers};
 ghost use Rattle.thrift_binary.specs.Strict.{wire_bytes};
@@ -141,8 +142,16 @@ pub fn write_add_partitions_result(
 ) -> Result<(), NoMemory>
     ensures { Gathers writer.old writer.new result (wire_bytes struct_code (partitions_result (option_copied parts.entry))) }
 {
-    if let Some(parts) = parts {
-        put_field::<ListOf<PartitionFields>>(writer, 1, parts)?;
-    }
+    put_partitions(writer, parts)?;
     writer.stop()
+}
+
+// The field of the partitions; absent ones aren't written.
+fn put_partitions(writer: &mut WireWriter, parts: Option<&Parts>) -> Result<(), NoMemory>
+    ensures { Gathers writer.old writer.new result (field_spelled (partitions_field (option_copied parts.entry))) }
+{
+    match parts {
+        Some(parts) => put_field::<ListOf<PartitionFields>>(writer, 1, parts),
+        None => Ok(()),
+    }
 }

@@ -10,4 +10,4 @@ returns-in_err-skip_field-clause-reads g c =
     rw (p.1, p.2) (struct_fails _ _ _ _ c.in_err-skip_field.field-0.0 c.in_err-skip_field.ensures.reads)
 
 pub returns-clause-reads : goal.returns-clause-reads
-returns-clause-reads g c = Took-weaker _ _ _ _ _ _ (λ bytes h. let s = is_struct h.0 _ bytes h.1 in (s.0, s.1, refl)) c.in_ok-skip_field.ensures.reads
+returns-clause-reads g c = Took-weaker _ _ _ _ _ _ (λ bytes h. let s = is_struct h.0 _ bytes h.1 in (s.0, s.1, c.asked.ensures)) c.in_ok-skip_field.ensures.reads
