@@ -4,6 +4,7 @@ use crate::again::{Reader, gathered};
 use crate::faults::told_fault;
 use crate::requests::text_or_none;
 use cat_types::{Call, CopyParts, NamedPart, PartArg, PartArgs, Parts, Text};
+use ms_structs::StructFault;
 use std::alloc::Global;
 use table_cases::Unable;
 use table_structs::{
@@ -63,9 +64,29 @@ fn named(alloc: Global, part: &PartArg) -> Result<NamedPart, Unable> {
 /// What the request in front asks for: its database and its table, its flags `ifNotExists` and
 /// `needResult`, and how many partitions; or the result with its partitions, where they are to be told.
 pub fn told_adding(alloc: Global, reader: &mut Reader<'_>, told: Told) -> Result<String, Unable> {
-    match read_add_partitions_request(alloc, reader) {
-        Ok(call) => told_call(alloc, &call, told),
+    told_where_read(alloc, read_add_partitions_request(alloc, reader), told)
+}
+
+// What is told of, once it is read.
+trait Tells: Drop {
+    fn told(&self, alloc: Global, told: Told) -> Result<String, Unable>;
+}
+
+// What is told of what was read. Over any type, so that nobody proves here how each call is dropped.
+fn told_where_read<T: Tells>(
+    alloc: Global,
+    read: Result<T, StructFault>,
+    told: Told,
+) -> Result<String, Unable> {
+    match read {
+        Ok(value) => value.told(alloc, told),
         Err(fault) => told_fault(alloc, fault),
+    }
+}
+
+impl Tells for Call {
+    fn told(&self, alloc: Global, told: Told) -> Result<String, Unable> {
+        told_call(alloc, self, told)
     }
 }
 
