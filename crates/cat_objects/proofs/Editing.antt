@@ -1,5 +1,5 @@
 -- Databases and tables that are changed in place.
-use Rattle.std.proofs.Common.{◌≡◌, ℕ, false, List, [], Option, Some, None, is_some, if◌then◌else◌, refl, sym, ap, ◌∙◌}
+use Rattle.std.proofs.Common.{◌≡◌, ℕ, true, false, List, [], Option, Some, None, MatchOption, is_some, if◌then◌else◌, refl, sym, ap, subst, ◌∙◌}
 use Rattle.std.specs.BTreeMap.{insert_entry}
 use Rattle.std.specs.Cmp.Lexicographic.{nat_list_cmp_total, slice_cmp}
 use Rattle.std.specs.Map.{set_value}
@@ -7,11 +7,12 @@ use Rattle.std.specs.Option.{unwrap_or}
 use Rattle.std.specs.Ordering.{nat_cmp}
 use Rattle.cat_values.specs.declared.records.DbRec.{DbRec}
 use Rattle.cat_values.specs.declared.records.TableRec.{TableRec}
-use Rattle.cat_objects.specs.Catalogue.{Catalogue, at_name, database, empty_database, is_name, table, tables_of}
-use Rattle.cat_objects.specs.Changes.{changed_in, changed_tables, put_table, with_old_record, with_tables, without_table}
+use Rattle.cat_objects.specs.Catalogue.{Catalogue, at_name, database, empty_database, has_table, is_name, parts_of, table, tables_of}
+use Rattle.cat_objects.specs.Changes.{changed_in, changed_parts, changed_tables, changed_value, put_table, settled_move, with_old_record, with_old_table, with_parts, with_table_record, with_tables, without_table}
+use Rattle.cat_objects.specs.Parts.{PartList}
 use Rattle.cat_objects.specs.declared.held.HeldDb.{HeldDb}
 use Rattle.cat_objects.specs.declared.held.HeldTable.{HeldTable}
-use Rattle.cat_objects.proofs.Maps.{set_absent, set_back, set_found, set_same, set_twice, taken_out}
+use Rattle.cat_objects.proofs.Maps.{changed_absent, changed_as, changed_not, changed_twice, removed_changed, set_absent, set_back, set_changed, set_found, set_same, set_twice, taken_out}
 
 abbrev pub Tables : Type 0
 Tables = List (List ℕ × HeldTable)
@@ -120,18 +121,114 @@ unchanged cat db f same = unchanged_by cat db f (database cat db) refl same
 
 -- a table that is put where none is
 abbrev pub inserted : List ℕ → ℕ → TableRec → Tables → Tables
-inserted name born rec tables = insert_entry (slice_cmp nat_cmp) tables name (record { born = born; rec = rec })
+inserted name born rec tables = insert_entry (slice_cmp nat_cmp) tables name (record { born = born; rec = rec; parts = [] })
 
 -- a table in the place of one that is there
 abbrev pub replaced : List ℕ → HeldTable → Tables → Tables
 replaced name held tables = set_value (is_name name) tables held
 
-pub put_absent : (name : List ℕ) (born : ℕ) (rec : TableRec) (tables : Tables) → at_name name tables ≡ None → inserted name born rec tables ≡ put_table name born rec tables
-put_absent name born rec tables none = sym (ap (λ (o : Option HeldTable). if is_some o then replaced name (record { born = born; rec = rec }) tables else inserted name born rec tables) none)
+-- what putting a table makes, by what is there
+abbrev pub put_over : List ℕ → ℕ → TableRec → Tables → Option HeldTable → Tables
+put_over name born rec tables o = if is_some o then replaced name (record { born = born; rec = rec; parts = parts_of o }) tables else insert_entry (slice_cmp nat_cmp) tables name (record { born = born; rec = rec; parts = parts_of o })
 
-pub put_present : (name : List ℕ) (born : ℕ) (rec : TableRec) (tables : Tables) (held : HeldTable) → at_name name tables ≡ Some held → replaced name (record { born = born; rec = rec }) tables ≡ put_table name born rec tables
-put_present name born rec tables held there = sym (ap (λ (o : Option HeldTable). if is_some o then replaced name (record { born = born; rec = rec }) tables else inserted name born rec tables) there)
+pub put_absent : (name : List ℕ) (born : ℕ) (rec : TableRec) (tables : Tables) → at_name name tables ≡ None → inserted name born rec tables ≡ put_table name born rec tables
+put_absent name born rec tables none = sym (ap (put_over name born rec tables) none)
+
+pub put_present : (name : List ℕ) (born : ℕ) (rec : TableRec) (tables : Tables) (held : HeldTable) → at_name name tables ≡ Some held → with_old_table name born rec tables ≡ put_table name born rec tables
+put_present name born rec tables held there = sym (ap (put_over name born rec tables) there ∙ set_changed (is_name name) (with_table_record born rec) tables held there)
 
 -- a table that was put where none was is taken out again
 pub put_removed : (name : List ℕ) (born : ℕ) (rec : TableRec) (tables : Tables) → at_name name tables ≡ None → without_table name (inserted name born rec tables) ≡ tables
-put_removed name born rec tables none = taken_out (slice_cmp nat_cmp) nat_list_cmp_total tables name (record { born = born; rec = rec }) none
+put_removed name born rec tables none = taken_out (slice_cmp nat_cmp) nat_list_cmp_total tables name (record { born = born; rec = rec; parts = [] }) none
+
+put_by_option : (cat : Catalogue) (db name : List ℕ) (born : ℕ) (rec : TableRec) (o : Option HeldTable) → table cat db name ≡ o → is_some o ≡ true → with_old_table name born rec (tables_of (database cat db)) ≡ put_table name born rec (tables_of (database cat db))
+put_by_option cat db name born rec None is there = absurd cc
+put_by_option cat db name born rec (Some held) is there = put_present name born rec (tables_of (database cat db)) held is
+
+-- a table's record that is put, by whether it is there
+pub put_there : (cat : Catalogue) (db name : List ℕ) (born : ℕ) (rec : TableRec) → has_table cat db name ≡ true → changed_tables db (with_old_table name born rec) cat ≡ changed_tables db (put_table name born rec) cat
+put_there cat db name born rec there = alike cat db (with_old_table name born rec) (put_table name born rec) (put_by_option cat db name born rec (table cat db name) refl there)
+
+pub put_missing : (cat : Catalogue) (db name : List ℕ) (born : ℕ) (rec : TableRec) → has_table cat db name ≡ false → changed_tables db (inserted name born rec) cat ≡ changed_tables db (put_table name born rec) cat
+put_missing cat db name born rec free = alike cat db (inserted name born rec) (put_table name born rec) (put_absent name born rec (tables_of (database cat db)) (none_there (table cat db name) free))
+
+-- ---- a table taken out of its place and put back
+
+-- a change of a table that isn't there
+pub absent_unchanged : (cat : Catalogue) (db name : List ℕ) (change : HeldTable → HeldTable) → table cat db name ≡ None → changed_tables db (changed_value (is_name name) change) cat ≡ cat
+absent_unchanged cat db name change none = unchanged cat db (changed_value (is_name name) change) (changed_absent (is_name name) change (tables_of (database cat db)) none)
+
+-- what was taken out of a table's place: what is there, or one without partitions
+abbrev pub WasTaken : Catalogue → List ℕ → List ℕ → HeldTable → Type 0
+WasTaken cat db name held = MatchOption (table cat db name) (held.parts ≡ []) (λ there. held ≡ there)
+
+set_by : (tables : Tables) (name : List ℕ) (left held : HeldTable) (change : HeldTable → HeldTable) (o : Option HeldTable) → at_name name tables ≡ o → MatchOption o (held.parts ≡ []) (λ there. held ≡ there)
+    → replaced name (change held) (replaced name left tables) ≡ changed_value (is_name name) change tables
+set_by tables name left held change None is was =
+    set_twice (is_name name) tables left (change held)
+    ∙ set_absent (is_name name) tables (change held) is
+    ∙ sym (changed_absent (is_name name) change tables is)
+set_by tables name left held change (Some there) is was =
+    set_twice (is_name name) tables left (change held)
+    ∙ set_changed (is_name name) change tables held (is ∙ ap (λ (h : HeldTable). Some h) (sym was))
+
+-- changed
+pub held_put : (cat taken put : Catalogue) (db name : List ℕ) (left held new : HeldTable) (change : HeldTable → HeldTable) → WasTaken cat db name held → taken ≡ changed_tables db (replaced name left) cat → new ≡ change held
+    → put ≡ changed_tables db (replaced name new) taken → put ≡ changed_tables db (changed_value (is_name name) change) cat
+held_put cat taken put db name left held new change was out changed back =
+    back
+    ∙ ap (changed_tables db (replaced name new)) out
+    ∙ composed cat db (replaced name new) (replaced name left)
+    ∙ alike cat db (λ (tables : Tables). replaced name new (replaced name left tables)) (changed_value (is_name name) change)
+    (ap (λ (h : HeldTable). replaced name h (replaced name left (tables_of (database cat db)))) changed
+    ∙ set_by (tables_of (database cat db)) name left held change (table cat db name) refl was)
+
+-- as it was
+pub held_same : (cat taken put : Catalogue) (db name : List ℕ) (left held new : HeldTable) → WasTaken cat db name held → taken ≡ changed_tables db (replaced name left) cat → new ≡ held
+    → put ≡ changed_tables db (replaced name new) taken → put ≡ cat
+held_same cat taken put db name left held new was out same back =
+    held_put cat taken put db name left held new (λ (h : HeldTable). h) was out same back
+    ∙ unchanged cat db (changed_value (is_name name) (λ (h : HeldTable). h)) (changed_not (is_name name) (λ (h : HeldTable). h) (tables_of (database cat db)) (λ h found. refl))
+
+-- ---- the partitions of a table
+
+abbrev on_parts : (PartList → PartList) → HeldTable → HeldTable
+on_parts change held = with_parts (change held.parts) held
+
+pub parts_composed : (cat : Catalogue) (db name : List ℕ) (f g : PartList → PartList) → changed_tables db (changed_parts name f) (changed_tables db (changed_parts name g) cat) ≡ changed_tables db (changed_parts name (λ parts. f (g parts))) cat
+parts_composed cat db name f g =
+    composed cat db (changed_parts name f) (changed_parts name g)
+    ∙ alike cat db (λ (tables : Tables). changed_parts name f (changed_parts name g tables)) (changed_parts name (λ parts. f (g parts))) (changed_twice (is_name name) (on_parts f) (on_parts g) (tables_of (database cat db)))
+
+-- changes that make the same of the partitions that are there
+pub parts_alike : (cat : Catalogue) (db name : List ℕ) (f g : PartList → PartList) → f (parts_of (table cat db name)) ≡ g (parts_of (table cat db name)) → changed_tables db (changed_parts name f) cat ≡ changed_tables db (changed_parts name g) cat
+parts_alike cat db name f g same =
+    alike cat db (changed_parts name f) (changed_parts name g)
+    (changed_as (is_name name) (on_parts f) (on_parts g) (tables_of (database cat db))
+    (λ held found. ap (λ (parts : PartList). with_parts parts held) (subst (λ (o : Option HeldTable). f (parts_of o) ≡ g (parts_of o)) found same)))
+
+-- a change that leaves the partitions that are there
+pub parts_unchanged : (cat : Catalogue) (db name : List ℕ) (f : PartList → PartList) → f (parts_of (table cat db name)) ≡ parts_of (table cat db name) → changed_tables db (changed_parts name f) cat ≡ cat
+parts_unchanged cat db name f same =
+    unchanged cat db (changed_parts name f)
+    (changed_not (is_name name) (on_parts f) (tables_of (database cat db))
+    (λ held found. ap (λ (parts : PartList). with_parts parts held) (subst (λ (o : Option HeldTable). f (parts_of o) ≡ parts_of o) found same)))
+
+parts_by : (o : Option HeldTable) (held : HeldTable) → MatchOption o (held.parts ≡ []) (λ there. held ≡ there) → held.parts ≡ parts_of o
+parts_by None held was = was
+parts_by (Some there) held was = ap (λ (h : HeldTable). h.parts) was
+
+-- the partitions of what was taken out
+pub taken_parts : (cat : Catalogue) (db name : List ℕ) (held : HeldTable) → WasTaken cat db name held → held.parts ≡ parts_of (table cat db name)
+taken_parts cat db name held was = parts_by (table cat db name) held was
+
+-- partitions that were taken out of a table that is dropped, and given to another
+pub parts_moved : (cat emptied given dropped : Catalogue) (db name to : List ℕ) (parts : PartList) → parts ≡ parts_of (table cat db name) → emptied ≡ changed_tables db (changed_parts name (λ old. [])) cat → given ≡ changed_tables db (changed_parts to (λ old. parts)) emptied
+    → dropped ≡ changed_tables db (without_table name) given → dropped ≡ changed_tables db (settled_move name to) cat
+parts_moved cat emptied given dropped db name to parts were out in_ without =
+    without
+    ∙ ap (changed_tables db (without_table name)) (in_ ∙ ap (changed_tables db (changed_parts to (λ old. parts))) out ∙ composed cat db (changed_parts to (λ old. parts)) (changed_parts name (λ old. [])))
+    ∙ composed cat db (without_table name) (λ (tables : Tables). changed_parts to (λ old. parts) (changed_parts name (λ old. []) tables))
+    ∙ alike cat db (λ (tables : Tables). without_table name (changed_parts to (λ old. parts) (changed_parts name (λ old. []) tables))) (settled_move name to)
+    (removed_changed (is_name name) (is_name to) (with_parts parts) (with_parts []) (λ held. refl) (tables_of (database cat db))
+    ∙ ap (λ (p : PartList). without_table name (changed_parts to (λ old. p) (tables_of (database cat db)))) were)

@@ -1,4 +1,5 @@
 pub mod Maps
 pub mod Editing
 pub mod PlacedBack
+pub mod Putting
 pub mod Taking

@@ -5,10 +5,12 @@ use Rattle.std.specs.Cmp.Lexicographic.{slice_cmp}
 use Rattle.std.specs.Map.{lookup, set_value}
 use Rattle.std.specs.Ordering.{nat_cmp}
 use Rattle.cat_values.specs.declared.records.DbRec.{DbRec}
+use Rattle.cat_values.specs.declared.records.PartRec.{PartRec}
+use Rattle.cat_objects.specs.Parts.{PartList, at_values}
 use Rattle.cat_objects.specs.declared.held.HeldDb.{HeldDb}
 use Rattle.cat_objects.specs.declared.held.HeldTable.{HeldTable}
 
--- the databases by name, each with its born, the number of the event that made it, its record, and its tables by name, each with its born and its record; names rise by their bytes
+-- the databases by name, each with its born, the number of the event that made it, its record, and its tables by name, each with its born, its record, and its partitions by their values; names rise by their bytes, and lists of values by their texts
 pub record Catalogue : Type 0 where
   pub databases : List (List ℕ × HeldDb)
 
@@ -58,3 +60,15 @@ table cat db name = at_name name (tables_of (database cat db))
 
 abbrev pub has_table : Catalogue → List ℕ → List ℕ → Bool
 has_table cat db name = is_some (table cat db name)
+
+-- the partitions of a table, and none of one that isn't there
+abbrev pub parts_of : Option HeldTable → PartList
+parts_of None = []
+parts_of (Some held) = held.parts
+
+-- the partition with these values of the table with this name
+abbrev pub part : Catalogue → List ℕ → List ℕ → List (List ℕ) → Option PartRec
+part cat db name values = at_values values (parts_of (table cat db name))
+
+abbrev pub has_part : Catalogue → List ℕ → List ℕ → List (List ℕ) → Bool
+has_part cat db name values = is_some (part cat db name values)

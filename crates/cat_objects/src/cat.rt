@@ -2,11 +2,12 @@
 
 ghost use Rattle.std.specs.Prelude.{◌≡◌, IfOk, length};
 ghost use Rattle.std.specs.Map.{keys_of};
-ghost use Rattle.std.specs.Option.{option_copied};
-ghost use Rattle.cat_objects.specs.Catalogue.{database, has_database, new_catalogue, table, tables_of};
+ghost use Rattle.std.specs.Option.{option_copied, option_map};
+ghost use Rattle.cat_objects.specs.Catalogue.{database, has_database, has_part, new_catalogue, part, parts_of, table, tables_of};
+ghost use Rattle.cat_objects.specs.Parts.{first_after};
 
 use crate::{HeldDb, HeldTable};
-use cat_types::{ListOf, MapOf, NoMemory, Text, Texts};
+use cat_types::{DbRec, ListOf, MapOf, NoMemory, PartRec, TableRec, Text, Texts};
 use std::alloc::Global;
 use std::marker::Model;
 
@@ -100,6 +101,57 @@ impl Cat {
         match self.held_database(db) {
             Some(held) => held.tables.len() as u64,
             None => 0,
+        }
+    }
+
+    /// The born and the record of the database with this name, which is in lower case. It takes no
+    /// memory.
+    pub fn db(&self, db: &Text) -> Option<(u64, &DbRec)>
+        ensures born { option_map (λ found. found.0) result ≡ option_map (λ held. held.born) (database self.now db.now) }
+        ensures rec { option_map (λ found. found.1.now) result ≡ option_map (λ held. held.rec) (database self.now db.now) }
+    {
+        let held = self.held_database(db)?;
+        Some((held.born, &held.rec))
+    }
+
+    /// The born and the record of the table with this name in the database with that one; both are in
+    /// lower case. It takes no memory.
+    pub fn table(&self, db: &Text, name: &Text) -> Option<(u64, &TableRec)>
+        ensures born { option_map (λ found. found.0) result ≡ option_map (λ held. held.born) (table self.now db.now name.now) }
+        ensures rec { option_map (λ found. found.1.now) result ≡ option_map (λ held. held.rec) (table self.now db.now name.now) }
+    {
+        let held = self.held_table(db, name)?;
+        Some((held.born, &held.rec))
+    }
+
+    /// The record of the partition with these values of the table with this name in the database with
+    /// that one; both are in lower case. It takes no memory.
+    pub fn part(&self, db: &Text, name: &Text, values: &Texts) -> Option<&PartRec>
+        ensures { option_copied result ≡ part self.now db.now name.now values.now }
+    {
+        self.held_table(db, name)?.parts.get(values)
+    }
+
+    /// Whether there is a partition with these values. It takes no memory.
+    pub fn has_part(&self, db: &Text, name: &Text, values: &Texts) -> bool
+        ensures { result ≡ has_part self.now db.now name.now values.now }
+    {
+        self.part(db, name, values).is_some()
+    }
+
+    /// The first partition of a table whose values are above these, or the first of all. It takes no
+    /// memory.
+    pub fn part_after(
+        &self,
+        db: &Text,
+        name: &Text,
+        after: Option<&Texts>,
+    ) -> Option<(&Texts, &PartRec)>
+        ensures { option_map (λ found. (found.0.now, found.1.now)) result ≡ first_after (option_copied after.entry) (parts_of (table self.now db.now name.now)) }
+    {
+        match self.held_table(db, name) {
+            Some(held) => held.parts.after(after),
+            None => None,
         }
     }
 }

@@ -1,17 +1,17 @@
 //! How the databases and tables of a catalogue are changed in place.
 
-ghost use Rattle.std.specs.Prelude.{◌≡◌, OnErr, OnOk};
+ghost use Rattle.std.specs.Prelude.{◌≡◌, [], IfSome, MatchOption, OnErr, OnOk};
 ghost use Rattle.std.specs.BTreeMap.{insert_entry};
 ghost use Rattle.std.specs.Cmp.Lexicographic.{slice_cmp};
 ghost use Rattle.std.specs.Map.{remove_entry, set_value};
 ghost use Rattle.std.specs.Option.{unwrap_or};
 ghost use Rattle.std.specs.Ordering.{nat_cmp};
 ghost use Rattle.cat_objects.specs.Catalogue.{database, empty_database, is_name, table};
-ghost use Rattle.cat_objects.specs.Changes.{changed_tables, with_old_record, without_table};
+ghost use Rattle.cat_objects.specs.Changes.{changed_tables, with_old_record, with_old_table, without_table};
 ghost use Rattle.cat_objects.specs.Placing.{with_new};
 
-use crate::{Cat, HeldDb, HeldTable};
-use cat_types::{DbRec, MapOf, NoMemory, Text};
+use crate::{Cat, HeldDb, HeldParts, HeldTable};
+use cat_types::{DbRec, MapOf, NoMemory, TableRec, Text};
 use std::mem;
 
 impl Cat {
@@ -94,27 +94,88 @@ impl Cat {
         let _ = self.swap_record(db, before);
     }
 
-    // Puts what was held of a table in the place of what is, where it is there. It takes no memory.
-    pub(crate) fn restore_table(&mut self, db: &Text, name: &Text, before: HeldTable)
-        ensures { self.new ≡ changed_tables db.now (λ tables. set_value (is_name name.now) tables before) self.old }
+    // Takes a table out of its place, in which another one stays; one without partitions where it isn't
+    // there. It takes no memory.
+    pub(crate) fn take_table(&mut self, db: &Text, name: &Text) -> HeldTable
+        ensures value { MatchOption (table self.old db.now name.now) (result.parts ≡ []) (λ held. result ≡ held) }
+        ensures left { (left : HeldTable) × (self.new ≡ changed_tables db.now (λ tables. set_value (is_name name.now) tables left) self.old) }
     {
-        let _ = self.swap_table(db, name, before);
+        match self.swap_table(db, name, HeldTable::empty(self.alloc)) {
+            Some(held) => held,
+            None => HeldTable::empty(self.alloc),
+        }
     }
 
-    // Puts a table that isn't there into a database. After `NoMemory` the catalogue is as before.
+    // Puts a table in the place of what is there at its name. It takes no memory.
+    pub(crate) fn restore_table(&mut self, db: &Text, name: &Text, held: HeldTable)
+        ensures { self.new ≡ changed_tables db.now (λ tables. set_value (is_name name.now) tables held) self.old }
+    {
+        let _ = self.swap_table(db, name, held);
+    }
+
+    // Gives a table a born and a record, where it is there, and tells those that it had. Its partitions
+    // stay. It takes no memory.
+    pub(crate) fn swap_table_record(
+        &mut self,
+        db: &Text,
+        name: &Text,
+        born: u64,
+        rec: TableRec,
+    ) -> (u64, TableRec)
+        ensures value { IfSome (table self.old db.now name.now) (λ held. result ≡ (held.born, held.rec)) }
+        ensures after { self.new ≡ changed_tables db.now (with_old_table name.now born rec) self.old }
+    {
+        let held = self.take_table(db, name);
+        let HeldTable {
+            born: old_born,
+            rec: before,
+            parts,
+        } = held;
+        self.restore_table(db, name, HeldTable { born, rec, parts });
+        (old_born, before)
+    }
+
+    // Gives a table an older born and record, where it is there. It takes no memory.
+    pub(crate) fn restore_table_record(
+        &mut self,
+        db: &Text,
+        name: &Text,
+        born: u64,
+        before: TableRec,
+    )
+        ensures { self.new ≡ changed_tables db.now (with_old_table name.now born before) self.old }
+    {
+        let _ = self.swap_table_record(db, name, born, before);
+    }
+
+    // Puts a table that isn't there into a database, without partitions. After `NoMemory` the catalogue is
+    // as before.
     pub(crate) fn insert_table(
         &mut self,
         db: &Text,
         name: Text,
-        made: HeldTable,
+        born: u64,
+        rec: TableRec,
     ) -> Result<(), NoMemory>
-        ensures ok { OnOk result (self.new ≡ changed_tables db.now (λ tables. insert_entry (slice_cmp nat_cmp) tables name made) self.old) }
+        ensures ok { OnOk result (self.new ≡ changed_tables db.now (λ tables. insert_entry (slice_cmp nat_cmp) tables name (record { born = born; rec = rec; parts = [] })) self.old) }
         ensures err { OnErr result (self.new ≡ self.old) }
     {
+        let made = self.new_table(born, rec);
         let mut held = self.take_database(db);
         let put = held.tables.put(name, made);
         self.put_back(db, held);
         put
+    }
+
+    // A table without partitions. It takes no memory.
+    pub(crate) fn new_table(&self, born: u64, rec: TableRec) -> HeldTable
+        ensures { result ≡ record { born = born; rec = rec; parts = [] } }
+    {
+        HeldTable {
+            born,
+            rec,
+            parts: HeldParts::new(self.alloc),
+        }
     }
 
     // Takes a table out of a database, where it is there. It takes no memory.

@@ -4,9 +4,12 @@
 mod cat;
 mod edits;
 mod held;
+mod part_edits;
+mod parts;
 mod placing;
 mod replaying;
 
 pub use cat::{Cat, LAST_EVENT};
 pub use held::{HeldDb, HeldTable};
+pub use parts::{HeldParts, PartPut};
 pub use placing::Placed;

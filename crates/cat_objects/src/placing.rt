@@ -3,12 +3,16 @@
 
 ghost use Rattle.std.specs.Prelude.{◌≡◌, ℕ, false, true, IfOk, OnErr};
 ghost use Rattle.std.specs.Map.{remove_entry};
-ghost use Rattle.cat_objects.specs.Catalogue.{database, has_database, has_table, is_name};
-ghost use Rattle.cat_objects.specs.Changes.{changed_tables, done, done_op, put_table, settled, taken_back, takes_call, with_old_record, without_table};
-ghost use Rattle.cat_objects.specs.Placing.{Places, is_placeable, with_new};
+ghost use Rattle.std.specs.Option.{option_copied};
+ghost use Rattle.cat_objects.specs.Catalogue.{database, has_database, has_part, has_table, is_name};
+ghost use Rattle.cat_objects.specs.Changes.{changed_parts, changed_tables, done, done_op, moved_table, put_table, settled, taken_back, takes_call, with_old_record, without_table};
+ghost use Rattle.cat_objects.specs.Parts.{moved_part, without_part};
+ghost use Rattle.cat_objects.specs.Placing.{Places, is_placeable, put_all, table_of_puts, with_new};
 
-use crate::{Cat, HeldTable};
-use cat_types::{Change, CopyParts, DbRec, NoMemory, Op, TableRec, Text, TryCopy};
+use crate::{Cat, PartPut};
+use cat_types::{
+    Change, CopyParts, DbRec, NoMemory, Op, Ops, PartRec, TableRec, Text, Texts, TryCopy,
+};
 
 /// A change that was placed and is neither settled nor taken back: what it made, altered or is to
 /// drop, with what was there before.
@@ -30,28 +34,49 @@ pub enum Placed {
         db: Text,
         table: Text,
     },
-    /// With what was held of it before.
+    /// With the born and the record that it had before.
     TableAltered {
         db: Text,
         table: Text,
-        before: HeldTable,
+        born: u64,
+        before: TableRec,
     },
     /// It is there until this is settled.
     TableDropped {
         db: Text,
         table: Text,
     },
-    /// It is there under both names until this is settled.
+    /// It is there under both names until this is settled; its partitions stay under the old one till
+    /// then.
     TableMoved {
         db: Text,
         table: Text,
         to: Text,
     },
+    /// One after the other, each with what stood at its values before.
+    PartsPut {
+        db: Text,
+        table: Text,
+        puts: Vec<PartPut>,
+    },
+    /// It is there until this is settled.
+    PartDropped {
+        db: Text,
+        table: Text,
+        values: Texts,
+    },
+    /// It is there at both lists of values until this is settled.
+    PartMoved {
+        db: Text,
+        table: Text,
+        values: Texts,
+        to: Texts,
+    },
 }
 
 impl Cat {
-    /// Does a change as far as it takes memory. It needs a change with one operation that the catalogue
-    /// can take as some event. Once what was placed is settled, the whole change is
+    /// Does a change as far as it takes memory. It needs a change that the catalogue can take as some
+    /// event, with one operation alone or with puts of partitions, all under one table. Once what was placed is settled, the whole change is
     /// done; once it is taken back, the catalogue is as before. After `NoMemory` it is as before too.
     pub fn place(&mut self, change: &Change) -> Result<Placed, NoMemory>
         requires { (id : ℕ) × (takes_call self.old id change.now ≡ true) }
@@ -59,6 +84,9 @@ impl Cat {
         ensures taken_back { IfOk result (λ placed. taken_back placed self.new ≡ self.old) }
         ensures err { OnErr result (self.new ≡ self.old) }
     {
+        if let Some(table) = table_of_puts(&change.ops) {
+            return self.place_puts(&change.db, table, &change.ops);
+        }
         let Some(op) = change.ops.get(0) else {
             unreachable!()
         };
@@ -88,17 +116,17 @@ impl Cat {
                 rec: _,
             } => unreachable!(),
             Op::DropPart {
-                table: _,
+                table,
                 born: _,
-                values: _,
-            } => unreachable!(),
+                values,
+            } => self.place_drop_part(db, table, values),
             Op::MovePart {
-                table: _,
+                table,
                 born: _,
-                values: _,
-                to: _,
-                rec: _,
-            } => unreachable!(),
+                values,
+                to,
+                rec,
+            } => self.place_move_part(db, table, values, to, rec),
         }
     }
 
@@ -169,10 +197,13 @@ impl Cat {
         ensures { Places result self.new (changed_tables db.now (put_table table.now born rec.now) self.old) self.old }
     {
         let (db, table, rec) = (db, table, rec).copy_parts(self.alloc)?;
-        let Some(before) = self.swap_table(&db, &table, HeldTable { born, rec }) else {
-            unreachable!()
-        };
-        Ok(Placed::TableAltered { db, table, before })
+        let (old_born, before) = self.swap_table_record(&db, &table, born, rec);
+        Ok(Placed::TableAltered {
+            db,
+            table,
+            born: old_born,
+            before,
+        })
     }
 
     // Places a table that isn't there.
@@ -187,7 +218,7 @@ impl Cat {
         ensures { Places result self.new (changed_tables db.now (put_table table.now born rec.now) self.old) self.old }
     {
         let (db, table, name, rec) = (db, table, table, rec).copy_parts(self.alloc)?;
-        self.insert_table(&db, name, HeldTable { born, rec })?;
+        self.insert_table(&db, name, born, rec)?;
         Ok(Placed::TableMade { db, table })
     }
 
@@ -210,11 +241,60 @@ impl Cat {
         rec: &TableRec,
     ) -> Result<Placed, NoMemory>
         requires { has_table self.old db.now to.now ≡ false }
-        ensures { Places result self.new (changed_tables db.now (λ tables. without_table table.now (put_table to.now born rec.now tables)) self.old) self.old }
+        ensures { Places result self.new (changed_tables db.now (moved_table table.now to.now born rec.now) self.old) self.old }
     {
         let ((db, table, to), (name, rec)) = ((db, table, to), (to, rec)).copy_parts(self.alloc)?;
-        self.insert_table(&db, name, HeldTable { born, rec })?;
+        self.insert_table(&db, name, born, rec)?;
         Ok(Placed::TableMoved { db, table, to })
+    }
+
+    // Places that partitions are put, one after the other, under one table.
+    fn place_puts(&mut self, db: &Text, table: &Text, ops: &Ops) -> Result<Placed, NoMemory>
+        ensures { Places result self.new (changed_tables db.now (changed_parts table.now (put_all ops.now)) self.old) self.old }
+    {
+        let (db, table) = (db, table).copy_parts(self.alloc)?;
+        let puts = self.put_parts(&db, &table, ops.as_slice())?;
+        Ok(Placed::PartsPut { db, table, puts })
+    }
+
+    // Places that a partition is dropped, which stays until that is settled.
+    fn place_drop_part(
+        &mut self,
+        db: &Text,
+        table: &Text,
+        values: &Texts,
+    ) -> Result<Placed, NoMemory>
+        ensures { Places result self.new (changed_tables db.now (changed_parts table.now (without_part values.now)) self.old) self.old }
+    {
+        let (db, table, values) = (db, table, values).copy_parts(self.alloc)?;
+        Ok(Placed::PartDropped { db, table, values })
+    }
+
+    // Places a partition at other values, at which there is none. At the old ones it stays until that is
+    // settled.
+    fn place_move_part(
+        &mut self,
+        db: &Text,
+        table: &Text,
+        values: &Texts,
+        to: &Texts,
+        rec: &PartRec,
+    ) -> Result<Placed, NoMemory>
+        requires { has_part self.old db.now table.now to.now ≡ false }
+        ensures { Places result self.new (changed_tables db.now (changed_parts table.now (moved_part values.now to.now rec.now)) self.old) self.old }
+    {
+        let ((db, table), (values, to), (new, rec)) = (
+            (db, table),
+            (values, to),
+            (to, rec),
+        ).copy_parts(self.alloc)?;
+        self.insert_part(&db, &table, new, rec)?;
+        Ok(Placed::PartMoved {
+            db,
+            table,
+            values,
+            to,
+        })
     }
 
     /// Settles what was placed: the rest of the change is done. It takes no memory.
@@ -229,10 +309,23 @@ impl Cat {
             Placed::TableAltered {
                 db: _,
                 table: _,
+                born: _,
                 before: _,
             } => {}
             Placed::TableDropped { db, table } => self.remove_table(&db, &table),
-            Placed::TableMoved { db, table, to: _ } => self.remove_table(&db, &table),
+            Placed::TableMoved { db, table, to } => self.settle_move(&db, &table, &to),
+            Placed::PartsPut {
+                db: _,
+                table: _,
+                puts: _,
+            } => {}
+            Placed::PartDropped { db, table, values } => self.remove_part(&db, &table, &values),
+            Placed::PartMoved {
+                db,
+                table,
+                values,
+                to: _,
+            } => self.remove_part(&db, &table, &values),
         }
     }
 
@@ -245,9 +338,44 @@ impl Cat {
             Placed::DatabaseAltered { db, before } => self.restore_record(&db, before),
             Placed::DatabaseDropped { db: _ } => {}
             Placed::TableMade { db, table } => self.remove_table(&db, &table),
-            Placed::TableAltered { db, table, before } => self.restore_table(&db, &table, before),
+            Placed::TableAltered {
+                db,
+                table,
+                born,
+                before,
+            } => self.restore_table_record(&db, &table, born, before),
             Placed::TableDropped { db: _, table: _ } => {}
             Placed::TableMoved { db, table: _, to } => self.remove_table(&db, &to),
+            Placed::PartsPut { db, table, puts } => self.unput_parts(&db, &table, puts),
+            Placed::PartDropped {
+                db: _,
+                table: _,
+                values: _,
+            } => {}
+            Placed::PartMoved {
+                db,
+                table,
+                values: _,
+                to,
+            } => self.remove_part(&db, &table, &to),
         }
     }
+}
+
+// The table under which the first of operations puts a partition, where it does.
+fn table_of_puts(ops: &Ops) -> Option<&Text>
+    ensures { option_copied result ≡ table_of_puts ops.now }
+{
+    let Some(
+        Op::PutPart {
+            table,
+            born: _,
+            values: _,
+            rec: _,
+        },
+    ) = ops.get(0)
+    else {
+        return None;
+    };
+    Some(table)
 }

@@ -1,13 +1,17 @@
 //! Doing a change again that was kept.
 
-ghost use Rattle.std.specs.Prelude.{◌≡◌, [], ◌∷◌, false, true, IfOk, MatchOption, OnOk};
+ghost use Rattle.std.specs.Prelude.{◌≡◌, ◌==◌, not, [], ◌∷◌, false, true, IfOk, MatchOption, OnOk};
+ghost use Rattle.std.specs.List.{list_all};
 ghost use Rattle.cat_objects.specs.Catalogue.{database, table};
-ghost use Rattle.cat_objects.specs.Changes.{changed_tables, done, done_op, done_ops, fits_creation, fits_database, fits_drop, fits_kind, fits_op, fits_ops, fits_over, is_born, is_drop_db, is_lawful_table, is_one, is_put_db, is_table_born, put_table, takes_change, without_table};
+ghost use Rattle.cat_objects.specs.Changes.{can_hold, changed_parts, changed_tables, done, done_op, done_ops, fits_creation, fits_database, fits_drop, fits_kind, fits_op, fits_ops, fits_over, is_born, is_drop_db, is_lawful_table, is_one, is_put_db, is_table_born, is_valid_value, put_table, takes_change, without_table};
+ghost use Rattle.cat_objects.specs.Parts.{moved_part, put_part, without_part};
 ghost use Rattle.cat_objects.specs.Placing.{Redoes};
 
-use crate::{Cat, HeldTable, LAST_EVENT};
+use crate::{Cat, LAST_EVENT};
 use cat_rules::{columns_rule, object_name};
-use cat_types::{Change, CopyParts, DbRec, EventKind, NoMemory, Op, Ops, TableRec, Text, TryCopy};
+use cat_types::{
+    Change, CopyParts, DbRec, EventKind, NoMemory, Op, Ops, PartRec, TableRec, Text, Texts, TryCopy,
+};
 
 impl Cat {
     /// Does a change again that was kept as the event with this number, operation by operation, and
@@ -104,23 +108,23 @@ impl Cat {
                 rec,
             } => self.replay_move(db, table, *born, to, rec),
             Op::PutPart {
-                table: _,
-                born: _,
-                values: _,
-                rec: _,
-            } => Ok(false),
+                table,
+                born,
+                values,
+                rec,
+            } => self.replay_part(db, table, *born, values, rec),
             Op::DropPart {
-                table: _,
-                born: _,
-                values: _,
-            } => Ok(false),
+                table,
+                born,
+                values,
+            } => Ok(self.replay_drop_part(db, table, *born, values)),
             Op::MovePart {
-                table: _,
-                born: _,
-                values: _,
-                to: _,
-                rec: _,
-            } => Ok(false),
+                table,
+                born,
+                values,
+                to,
+                rec,
+            } => self.replay_move_part(db, table, *born, values, to, rec),
         }
     }
 
@@ -180,8 +184,9 @@ impl Cat {
         if !self.may_move(db, name, born, to, rec)? {
             return Ok(false);
         }
-        self.put_table(db, to, born, rec)?;
-        self.remove_table(db, name);
+        let (new, rec) = (to, rec).copy_parts(self.alloc)?;
+        self.insert_table(db, new, born, rec)?;
+        self.settle_move(db, name, to);
         Ok(true)
     }
 
@@ -205,6 +210,88 @@ impl Cat {
         Ok(self.held_table(db, to).is_none())
     }
 
+    // A partition, over the one that is there or as a new one.
+    fn replay_part(
+        &mut self,
+        db: &Text,
+        name: &Text,
+        born: u64,
+        values: &Texts,
+        rec: &PartRec,
+    ) -> Result<bool, NoMemory>
+        ensures { IfOk result (λ taken. Redoes taken self.new (can_hold born values.now (table self.old db.now name.now)) (changed_tables db.now (changed_parts name.now (put_part values.now rec.now)) self.old)) }
+    {
+        if !self.can_hold(db, name, born, values) {
+            return Ok(false);
+        }
+        self.put_part(db, name, values, rec)?;
+        Ok(true)
+    }
+
+    // A partition that is dropped.
+    fn replay_drop_part(&mut self, db: &Text, name: &Text, born: u64, values: &Texts) -> bool
+        ensures { Redoes result self.new (fits_op self.old db.now (Op.DropPart name.now born values.now)) (changed_tables db.now (changed_parts name.now (without_part values.now)) self.old) }
+    {
+        if !self.is_table_born(db, name, born) || !self.has_part(db, name, values) {
+            return false;
+        }
+        self.remove_part(db, name, values);
+        true
+    }
+
+    // A partition that moves from the first values to the others.
+    fn replay_move_part(
+        &mut self,
+        db: &Text,
+        name: &Text,
+        born: u64,
+        values: &Texts,
+        to: &Texts,
+        rec: &PartRec,
+    ) -> Result<bool, NoMemory>
+        ensures { IfOk result (λ taken. Redoes taken self.new (fits_op self.old db.now (Op.MovePart name.now born values.now to.now rec.now)) (changed_tables db.now (changed_parts name.now (moved_part values.now to.now rec.now)) self.old)) }
+    {
+        if !self.can_hold(db, name, born, to) || !self.has_part(db, name, values) {
+            return Ok(false);
+        }
+        if self.has_part(db, name, to) {
+            return Ok(false);
+        }
+        self.put_part(db, name, to, rec)?;
+        self.remove_part(db, name, values);
+        Ok(true)
+    }
+
+    // Puts a partition over the one that is there, or as a new one.
+    fn put_part(
+        &mut self,
+        db: &Text,
+        name: &Text,
+        values: &Texts,
+        rec: &PartRec,
+    ) -> Result<(), NoMemory>
+        ensures { OnOk result (self.new ≡ changed_tables db.now (changed_parts name.now (put_part values.now rec.now)) self.old) }
+    {
+        if self.has_part(db, name, values) {
+            let rec = rec.copy(self.alloc)?;
+            self.swap_part(db, name, values, rec);
+            return Ok(());
+        }
+        let (values, rec) = (values, rec).copy_parts(self.alloc)?;
+        self.insert_part(db, name, values, rec)
+    }
+
+    // Whether a table can have a partition with these values.
+    fn can_hold(&self, db: &Text, name: &Text, born: u64, values: &Texts) -> bool
+        ensures { result ≡ can_hold born values.now (table self.now db.now name.now) }
+    {
+        let Some(held) = self.held_table(db, name) else {
+            return false;
+        };
+        let keys = held.rec.keys.len();
+        held.born == born && keys >= 1 && values.len() == keys && are_valid(values)
+    }
+
     // Puts a table over the one that is there, or as a new one.
     fn put_table(
         &mut self,
@@ -217,11 +304,11 @@ impl Cat {
     {
         if self.held_table(db, name).is_some() {
             let rec = rec.copy(self.alloc)?;
-            self.restore_table(db, name, HeldTable { born, rec });
+            self.restore_table_record(db, name, born, rec);
             return Ok(());
         }
         let (name, rec) = (name, rec).copy_parts(self.alloc)?;
-        self.insert_table(db, name, HeldTable { born, rec })
+        self.insert_table(db, name, born, rec)
     }
 
     // Whether there is a database with this born.
@@ -283,4 +370,34 @@ fn only_drops(ops: &Ops) -> bool
         return false;
     };
     ops.len() == 1
+}
+
+// Whether a partition may have each of these values.
+fn are_valid(values: &Texts) -> bool
+    ensures { result ≡ list_all is_valid_value values.now }
+{
+    for value in values.as_slice() {
+        if !is_valid(value) {
+            return false;
+        }
+    }
+    true
+}
+
+// Whether a partition may have this value.
+fn is_valid(value: &Text) -> bool
+    ensures { result ≡ is_valid_value value.now }
+{
+    value.len() <= 4_000 && has_no_zero(value.as_str().as_bytes())
+}
+
+fn has_no_zero(bytes: &[u8]) -> bool
+    ensures { result ≡ list_all (λ byte. not (byte == 0)) bytes.now }
+{
+    for byte in bytes {
+        if *byte == 0 {
+            return false;
+        }
+    }
+    true
 }

@@ -41,12 +41,12 @@ asked_alike xs ys (name ∷ names) same =
     asked_by (list_any (bytes_eq name) xs) xs ys name names (asked_alike xs ys names same) (asked_alike (name ∷ xs) (name ∷ ys) names (same_more xs ys name same))
     ∙ ap (λ (b : Bool). if b then first_asked ys names else name ∷ first_asked (name ∷ ys) names) (same name)
 
-turned_eq : (o p : Ordering) → o ≡ ordering_reverse p → is_eq o ≡ is_eq p
+pub turned_eq : (o p : Ordering) → o ≡ ordering_reverse p → is_eq o ≡ is_eq p
 turned_eq o Less is = ap is_eq is
 turned_eq o Equal is = ap is_eq is
 turned_eq o Greater is = ap is_eq is
 
-found_or : (b c : Bool) → cond b true c ≡ (b || c)
+pub found_or : (b c : Bool) → cond b true c ≡ (b || c)
 found_or true c = refl
 found_or false c = refl
 

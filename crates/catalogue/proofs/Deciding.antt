@@ -2,9 +2,10 @@
 use Rattle.std.proofs.Common.{◌≡◌, ◌==◌, ℕ, Bool, true, false, not, ◌&&◌, List, [], ◌∷◌, Option, Some, None, is_some, codes, length, if◌then◌else◌, nat_lt, nat_le, refl, ap, subst, ◌∙◌, eq-eqb}
 use Rattle.std.specs.Str.{bytes_eq}
 use Rattle.cat_types.specs.declared.arguments.DbArg.{DbArg}
+use Rattle.cat_types.specs.declared.arguments.PartArg.{PartArg}
 use Rattle.cat_types.specs.declared.arguments.TableArg.{TableArg}
 use Rattle.cat_types.specs.declared.calls.Call.{Call}
-use Rattle.cat_types.specs.declared.calls.Call.TheVariants.{AlterDatabase, AlterTable, CreateDatabase, CreateTable, DropDatabase, DropTable, GetAllDatabases, GetAllTables, GetCurrentNotificationEventId, GetDatabase, GetDatabases, GetFields, GetNextNotification, GetSchema, GetTable, GetTableObjectsByName, GetTableReq, GetTables}
+use Rattle.cat_types.specs.declared.calls.Call.TheVariants.{AddPartition, AddPartitions, AddPartitionsReq, AlterDatabase, AlterPartition, AlterPartitions, AlterTable, AppendPartition, AppendPartitionByName, CreateDatabase, CreateTable, DropDatabase, DropPartition, DropPartitionByName, DropTable, GetAllDatabases, GetAllTables, GetCurrentNotificationEventId, GetDatabase, GetDatabases, GetFields, GetNextNotification, GetPartition, GetPartitionByName, GetPartitionNames, GetPartitionNamesPs, GetPartitions, GetPartitionsByNames, GetPartitionsPs, GetSchema, GetTable, GetTableObjectsByName, GetTableReq, GetTables, RenamePartition}
 use Rattle.cat_types.specs.declared.changes.Change.{Change}
 use Rattle.cat_types.specs.declared.changes.EventKind.TheVariants as kind
 use Rattle.cat_types.specs.declared.changes.Op.{Op}
@@ -16,13 +17,16 @@ use Rattle.cat_objects.specs.Catalogue.{Catalogue, database, has_database, table
 use Rattle.cat_objects.specs.Changes.{are_some, has_operation, takes_call}
 use Rattle.catalogue.specs.Databases.{Rule, alter_database_rules, born_of, create_database_rules, database_altered, database_created, database_dropped, drop_database_rules, is_named, kept_name, kept_record}
 use Rattle.catalogue.specs.Decisions.{Decides, IfChange, decided_by, told}
+use Rattle.catalogue.specs.PartChanges.{add_list_rules, all_altered, alter_partition_rules, alter_partitions_rules, append_partition_rules, appended, drop_partition_rules, if_any, list_added, list_change, ops_under, part_change, partition_appended, partition_dropped, partition_renamed, rename_partition_rules}
+use Rattle.catalogue.specs.Partitions.{Meaning, by_name, by_values, meant_values}
 use Rattle.catalogue.specs.Rules.{breaks, decision, first_broken, first_refusal, lacks_number, result_of}
-use Rattle.catalogue.specs.Tables.{alter_table_rules, create_table_rules, drop_table_rules, renames, table_altered, table_created, table_dropped, table_put}
+use Rattle.catalogue.specs.Tables.{alter_table_rules, create_table_rules, drop_table_rules, renames, table_altered, table_born, table_created, table_dropped, table_put}
 use Rattle.catalogue.specs.declared.bars.Bars.{Bars}
 use Rattle.catalogue.specs.declared.decided.Decided.{Decided}
 use Rattle.catalogue.specs.declared.decided.Decided.TheVariants as decided
 use Rattle.cat_objects.specs.declared.held.HeldTable.{HeldTable}
 use Rattle.catalogue.specs.declared.refusal.Refusal.{Refusal}
+use Rattle.catalogue.proofs.DecidingParts.{add_list_taken, alter_list_taken, alter_one_taken, append_taken, drop_part_taken, rename_does, rename_taken}
 use Rattle.catalogue.proofs.DecidingTables.{alter_table_taken, create_table_taken, drop_table_taken}
 use Rattle.catalogue.proofs.Rules.{both, born_there, call_taken, fits_there, has_number, kept_named, unbroken}
 
@@ -77,6 +81,42 @@ no_change : (P : Type 0) (o : Option Refusal) (c : Change) (r s : Reply) → dec
 no_change P None c r s is = absurd cc
 no_change P (Some x) c r s is = absurd cc
 
+-- a change that is made only where it has an operation
+if_any_by : (b : Bool) (cat : Catalogue) (next : ℕ) (rules : List Rule) (due c : Change) (r s : Reply) → has_operation due ≡ b → (first_broken rules ≡ None → has_operation due ≡ true → nat_le next 9223372036854775807 ≡ true → takes_call cat next due ≡ true)
+    → decided.Change c r ≡ told (decided_by (first_refusal (first_broken rules) (lacks_number (if b then Some due else None) next)) (if b then Some due else None) s) → takes_call cat next c ≡ true
+if_any_by true cat next rules due c r s has taken is = by_rules cat next rules due c r s (λ _. has) (λ none room. taken none has room) is
+if_any_by false cat next rules due c r s has taken is = no_change _ (first_broken rules) c r s is
+
+by_any : (cat : Catalogue) (next : ℕ) (rules : List Rule) (due c : Change) (r s : Reply) → (first_broken rules ≡ None → has_operation due ≡ true → nat_le next 9223372036854775807 ≡ true → takes_call cat next due ≡ true)
+    → decided.Change c r ≡ told (decided_by (first_refusal (first_broken rules) (lacks_number (if_any due) next)) (if_any due) s) → takes_call cat next c ≡ true
+by_any cat next rules due c r s taken is = if_any_by (has_operation due) cat next rules due c r s refl taken is
+
+-- the changes of calls that put partitions
+abbrev list_due : Catalogue → Option (List ℕ) → Option (List ℕ) → List PartArg → ℕ → Change
+list_due cat db name parts moment = part_change kind.AddPartition cat (kept_name db) (ops_under (kept_name name) (table_born (table cat (kept_name db) (kept_name name))) (list_added cat db name parts moment))
+
+abbrev append_due : Catalogue → List ℕ → List ℕ → Meaning → ℕ → Change
+append_due cat db name meant moment = part_change kind.AddPartition cat db (ops_under name (table_born (table cat db name)) (appended (table cat db name) (meant_values meant) moment))
+
+abbrev alter_due : Catalogue → List ℕ → List ℕ → List PartArg → ℕ → Change
+alter_due cat db name parts moment = part_change kind.AlterPartition cat db (ops_under name (table_born (table cat db name)) (all_altered (table cat db name) parts moment))
+
+list_taken : (needs passes : Bool) (cat : Catalogue) (bars : Bars) (db name : Option (List ℕ)) (parts : List PartArg) (moment next : ℕ) (c : Change) (r s : Reply)
+    → decided.Change c r ≡ told (decided_by (first_refusal (first_broken (add_list_rules needs passes cat bars db name parts)) (lacks_number (list_change cat db name parts moment) next)) (list_change cat db name parts moment) s) → takes_call cat next c ≡ true
+list_taken needs passes cat bars db name parts moment next c r s is =
+    by_any cat next (add_list_rules needs passes cat bars db name parts) (list_due cat db name parts moment) c r s (add_list_taken needs passes cat bars db name parts moment next) is
+
+append_call_taken : (cat : Catalogue) (bars : Bars) (db name : List ℕ) (meant : Meaning) (moment next : ℕ) (c : Change) (r s : Reply)
+    → decided.Change c r ≡ told (decided_by (first_refusal (first_broken (append_partition_rules cat bars db name meant)) (lacks_number (partition_appended cat db name (meant_values meant) moment) next)) (partition_appended cat db name (meant_values meant) moment) s) → takes_call cat next c ≡ true
+append_call_taken cat bars db name meant moment next c r s is =
+    by_any cat next (append_partition_rules cat bars db name meant) (append_due cat db name meant moment) c r s (append_taken cat bars db name meant moment next) is
+
+drop_call_taken : (cat : Catalogue) (bars : Bars) (db name : List ℕ) (meant : Meaning) (next : ℕ) (c : Change) (r s : Reply)
+    → decided.Change c r ≡ told (decided_by (first_refusal (first_broken (drop_partition_rules cat bars db name meant)) (lacks_number (Some (partition_dropped cat db name (meant_values meant))) next)) (Some (partition_dropped cat db name (meant_values meant))) s)
+    → takes_call cat next c ≡ true
+drop_call_taken cat bars db name meant next c r s is =
+    by_rules cat next (drop_partition_rules cat bars db name meant) (partition_dropped cat db name (meant_values meant)) c r s (λ _. refl) (drop_part_taken cat bars db name meant next) is
+
 -- ---- all calls
 
 change_taken : (cat : Catalogue) (bars : Bars) (call : Call) (moment next : ℕ) (c : Change) (r : Reply) → decided.Change c r ≡ told (decision cat bars call moment next) → takes_call cat next c ≡ true
@@ -100,6 +140,28 @@ change_taken cat bars (AlterTable db name new) moment next c r is =
     by_rules cat next (alter_table_rules cat bars (lower db) (lower name) new) (table_altered cat (lower db) (lower name) new moment) c r Nothing (alter_makes cat bars (lower db) (lower name) new moment) (alter_table_taken cat bars (lower db) (lower name) new moment next) is
 change_taken cat bars (GetFields db name) moment next c r is = no_change _ (breaks cat bars (GetFields db name)) c r _ is
 change_taken cat bars (GetSchema db name) moment next c r is = no_change _ (breaks cat bars (GetSchema db name)) c r _ is
+change_taken cat bars (AddPartition part) moment next c r is = list_taken true false cat bars part.db part.table (part ∷ []) moment next c r _ is
+change_taken cat bars (AddPartitions []) moment next c r is = no_change _ None c r _ is
+change_taken cat bars (AddPartitions (first ∷ more)) moment next c r is = list_taken true false cat bars first.db first.table (first ∷ more) moment next c r _ is
+change_taken cat bars (AddPartitionsReq db name parts if_not_exists need_result) moment next c r is = list_taken false if_not_exists cat bars db name parts moment next c r _ is
+change_taken cat bars (AppendPartition db name values) moment next c r is = append_call_taken cat bars (lower db) (lower name) (by_values values) moment next c r _ is
+change_taken cat bars (AppendPartitionByName db name called) moment next c r is = append_call_taken cat bars (lower db) (lower name) (by_name called) moment next c r _ is
+change_taken cat bars (DropPartition db name values) moment next c r is = drop_call_taken cat bars (lower db) (lower name) (by_values values) next c r _ is
+change_taken cat bars (DropPartitionByName db name called) moment next c r is = drop_call_taken cat bars (lower db) (lower name) (by_name called) next c r _ is
+change_taken cat bars (GetPartition db name values) moment next c r is = no_change _ (breaks cat bars (GetPartition db name values)) c r _ is
+change_taken cat bars (GetPartitionByName db name called) moment next c r is = no_change _ (breaks cat bars (GetPartitionByName db name called)) c r _ is
+change_taken cat bars (GetPartitions db name max) moment next c r is = no_change _ (breaks cat bars (GetPartitions db name max)) c r _ is
+change_taken cat bars (GetPartitionNames db name max) moment next c r is = no_change _ (breaks cat bars (GetPartitionNames db name max)) c r _ is
+change_taken cat bars (GetPartitionsPs db name values max) moment next c r is = no_change _ (breaks cat bars (GetPartitionsPs db name values max)) c r _ is
+change_taken cat bars (GetPartitionNamesPs db name values max) moment next c r is = no_change _ (breaks cat bars (GetPartitionNamesPs db name values max)) c r _ is
+change_taken cat bars (GetPartitionsByNames db name names) moment next c r is = no_change _ (breaks cat bars (GetPartitionsByNames db name names)) c r _ is
+change_taken cat bars (AlterPartition db name new) moment next c r is =
+    by_any cat next (alter_partition_rules cat bars (lower db) (lower name) new) (alter_due cat (lower db) (lower name) (new ∷ []) moment) c r Nothing (alter_one_taken cat bars (lower db) (lower name) new moment next) is
+change_taken cat bars (AlterPartitions db name parts) moment next c r is =
+    by_any cat next (alter_partitions_rules cat bars (lower db) (lower name) parts) (alter_due cat (lower db) (lower name) parts moment) c r Nothing (alter_list_taken cat bars (lower db) (lower name) parts moment next) is
+change_taken cat bars (RenamePartition db name values new) moment next c r is =
+    by_rules cat next (rename_partition_rules cat bars (lower db) (lower name) values new) (partition_renamed cat (lower db) (lower name) values new moment) c r Nothing
+    (rename_does cat bars (lower db) (lower name) values new moment) (rename_taken cat bars (lower db) (lower name) values new moment next) is
 change_taken cat bars (GetNextNotification last max) moment next c r is = no_change _ None c r _ is
 change_taken cat bars GetCurrentNotificationEventId moment next c r is = no_change _ None c r _ is
 

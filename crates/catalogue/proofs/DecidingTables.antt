@@ -30,7 +30,7 @@ use Rattle.catalogue.proofs.Rules.{both, both_last, call_taken, fits_there, hold
 -- ---- altering
 
 -- a rule that isn't broken is passed by
-passed : (b : Bool) (x : Refusal) (rules : List (Bool × Refusal)) → b ≡ false → first_broken ((b, x) ∷ rules) ≡ first_broken rules
+pub passed : (b : Bool) (x : Refusal) (rules : List (Bool × Refusal)) → b ≡ false → first_broken ((b, x) ∷ rules) ≡ first_broken rules
 passed b x rules keeps = ap (λ (c : Bool). if c then Some x else first_broken rules) keeps
 
 -- the last rules of altering, where the change is made if none is broken

@@ -1,7 +1,7 @@
 -- Which calls are polls.
 use Rattle.std.specs.Prelude.{Option, None, Some}
 use Rattle.cat_types.specs.declared.calls.Call.{Call}
-use Rattle.cat_types.specs.declared.calls.Call.TheVariants.{AlterDatabase, AlterTable, CreateDatabase, CreateTable, DropDatabase, DropTable, GetAllDatabases, GetAllTables, GetCurrentNotificationEventId, GetDatabase, GetDatabases, GetFields, GetNextNotification, GetSchema, GetTable, GetTableObjectsByName, GetTableReq, GetTables}
+use Rattle.cat_types.specs.declared.calls.Call.TheVariants.{AddPartition, AddPartitions, AddPartitionsReq, AlterDatabase, AlterPartition, AlterPartitions, AlterTable, AppendPartition, AppendPartitionByName, CreateDatabase, CreateTable, DropDatabase, DropPartition, DropPartitionByName, DropTable, GetAllDatabases, GetAllTables, GetCurrentNotificationEventId, GetDatabase, GetDatabases, GetFields, GetNextNotification, GetPartition, GetPartitionByName, GetPartitionNames, GetPartitionNamesPs, GetPartitions, GetPartitionsByNames, GetPartitionsPs, GetSchema, GetTable, GetTableObjectsByName, GetTableReq, GetTables, RenamePartition}
 use Rattle.catalogue.specs.declared.poll.Poll.{Poll}
 use Rattle.catalogue.specs.declared.poll.Poll.TheVariants.{After, Newest}
 
@@ -23,5 +23,22 @@ poll_of (GetTableObjectsByName db names) = None
 poll_of (AlterTable db name new) = None
 poll_of (GetFields db name) = None
 poll_of (GetSchema db name) = None
+poll_of (AddPartition part) = None
+poll_of (AddPartitions parts) = None
+poll_of (AddPartitionsReq db table parts if_not_exists need_result) = None
+poll_of (AppendPartition db table values) = None
+poll_of (AppendPartitionByName db table name) = None
+poll_of (DropPartition db table values) = None
+poll_of (DropPartitionByName db table name) = None
+poll_of (GetPartition db table values) = None
+poll_of (GetPartitionByName db table name) = None
+poll_of (GetPartitions db table max) = None
+poll_of (GetPartitionNames db table max) = None
+poll_of (GetPartitionsPs db table values max) = None
+poll_of (GetPartitionNamesPs db table values max) = None
+poll_of (GetPartitionsByNames db table names) = None
+poll_of (AlterPartition db table part) = None
+poll_of (AlterPartitions db table parts) = None
+poll_of (RenamePartition db table values part) = None
 poll_of (GetNextNotification last max) = Some (After last max)
 poll_of GetCurrentNotificationEventId = Some Newest

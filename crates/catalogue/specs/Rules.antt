@@ -1,18 +1,21 @@
 -- Which calls are refused, what the others change, and what they result in.
-use Rattle.std.specs.Prelude.{ℕ, nat_lt, Bool, ◌&&◌, List, [], ◌∷◌, Option, None, Some, if◌then◌else◌}
+use Rattle.std.specs.Prelude.{ℕ, nat_lt, Bool, true, false, ◌&&◌, List, [], ◌∷◌, Option, None, Some, if◌then◌else◌}
 use Rattle.std.specs.Map.{keys_of}
 use Rattle.cat_values.specs.Names.{lower}
 use Rattle.cat_types.specs.declared.calls.Call.{Call}
-use Rattle.cat_types.specs.declared.calls.Call.TheVariants.{AlterDatabase, AlterTable, CreateDatabase, CreateTable, DropDatabase, DropTable, GetAllDatabases, GetAllTables, GetCurrentNotificationEventId, GetDatabase, GetDatabases, GetFields, GetNextNotification, GetSchema, GetTable, GetTableObjectsByName, GetTableReq, GetTables}
+use Rattle.cat_types.specs.declared.calls.Call.TheVariants.{AddPartition, AddPartitions, AddPartitionsReq, AlterDatabase, AlterPartition, AlterPartitions, AlterTable, AppendPartition, AppendPartitionByName, CreateDatabase, CreateTable, DropDatabase, DropPartition, DropPartitionByName, DropTable, GetAllDatabases, GetAllTables, GetCurrentNotificationEventId, GetDatabase, GetDatabases, GetFields, GetNextNotification, GetPartition, GetPartitionByName, GetPartitionNames, GetPartitionNamesPs, GetPartitions, GetPartitionsByNames, GetPartitionsPs, GetSchema, GetTable, GetTableObjectsByName, GetTableReq, GetTables, RenamePartition}
 use Rattle.cat_types.specs.declared.changes.Change.{Change}
 use Rattle.cat_types.specs.declared.replies.Reply.{Reply}
-use Rattle.cat_types.specs.declared.replies.Reply.TheVariants.{Names, Nothing, Tables}
+use Rattle.cat_types.specs.declared.replies.Reply.TheVariants.{Flag, Names, Nothing, Parts, Tables}
 use Rattle.cat_objects.specs.Catalogue.{Catalogue, database, table}
 use Rattle.cat_objects.specs.Changes.{has_operation}
 use Rattle.catalogue.specs.Databases.{Rule, alter_database_rules, create_database_rules, database_altered, database_created, database_dropped, drop_database_rules, get_database_rules, matching, shown_as}
 use Rattle.catalogue.specs.Decisions.{Decision, decided_by}
+use Rattle.catalogue.specs.PartChanges.{add_list_rules, add_partitions_rules, alter_partition_rules, alter_partitions_rules, append_partition_rules, appended_as, count_added, drop_partition_rules, list_change, list_told, partition_appended, partition_dropped, partition_renamed, partitions_added, parts_altered, rename_partition_rules, told_if}
+use Rattle.catalogue.specs.Partitions.{by_name, by_values, get_partition_rules, list_fitting_rules, list_partitions_rules, meant_as, meant_values, names_listed, parts_listed, parts_named}
 use Rattle.catalogue.specs.Tables.{alter_table_rules, columns_as, create_table_rules, drop_table_rules, get_columns_rules, get_table_req_rules, get_table_rules, schema_as, table_altered, table_as, table_created, table_dropped, table_names, tables_named}
 use Rattle.catalogue.specs.declared.bars.Bars.{Bars}
+use Rattle.catalogue.specs.declared.part_adds.Told.TheVariants as told
 use Rattle.catalogue.specs.declared.refusal.Refusal.{Refusal}
 use Rattle.catalogue.specs.declared.refusal.Refusal.TheVariants.{EventNumbersUsedUp}
 
@@ -39,6 +42,23 @@ rules_of cat bars (GetTableObjectsByName db names) = []
 rules_of cat bars (AlterTable db name new) = alter_table_rules cat bars (lower db) (lower name) new
 rules_of cat bars (GetFields db name) = get_columns_rules cat (lower db) (lower name)
 rules_of cat bars (GetSchema db name) = get_columns_rules cat (lower db) (lower name)
+rules_of cat bars (AddPartition part) = add_list_rules true false cat bars part.db part.table (part ∷ [])
+rules_of cat bars (AddPartitions parts) = add_partitions_rules cat bars parts
+rules_of cat bars (AddPartitionsReq db name parts if_not_exists need_result) = add_list_rules false if_not_exists cat bars db name parts
+rules_of cat bars (AppendPartition db name values) = append_partition_rules cat bars (lower db) (lower name) (by_values values)
+rules_of cat bars (AppendPartitionByName db name called) = append_partition_rules cat bars (lower db) (lower name) (by_name called)
+rules_of cat bars (DropPartition db name values) = drop_partition_rules cat bars (lower db) (lower name) (by_values values)
+rules_of cat bars (DropPartitionByName db name called) = drop_partition_rules cat bars (lower db) (lower name) (by_name called)
+rules_of cat bars (GetPartition db name values) = get_partition_rules cat (lower db) (lower name) (by_values values)
+rules_of cat bars (GetPartitionByName db name called) = get_partition_rules cat (lower db) (lower name) (by_name called)
+rules_of cat bars (GetPartitions db name max) = list_partitions_rules cat (lower db) (lower name)
+rules_of cat bars (GetPartitionNames db name max) = list_partitions_rules cat (lower db) (lower name)
+rules_of cat bars (GetPartitionsPs db name values max) = list_fitting_rules cat (lower db) (lower name) values
+rules_of cat bars (GetPartitionNamesPs db name values max) = list_fitting_rules cat (lower db) (lower name) values
+rules_of cat bars (GetPartitionsByNames db name names) = list_partitions_rules cat (lower db) (lower name)
+rules_of cat bars (AlterPartition db name part) = alter_partition_rules cat bars (lower db) (lower name) part
+rules_of cat bars (AlterPartitions db name parts) = alter_partitions_rules cat bars (lower db) (lower name) parts
+rules_of cat bars (RenamePartition db name values part) = rename_partition_rules cat bars (lower db) (lower name) values part
 rules_of cat bars (GetNextNotification last max) = []
 rules_of cat bars GetCurrentNotificationEventId = []
 
@@ -60,6 +80,23 @@ change cat bars (GetTableObjectsByName db names) moment next = None
 change cat bars (AlterTable db name new) moment next = Some (table_altered cat (lower db) (lower name) new moment)
 change cat bars (GetFields db name) moment next = None
 change cat bars (GetSchema db name) moment next = None
+change cat bars (AddPartition part) moment next = list_change cat part.db part.table (part ∷ []) moment
+change cat bars (AddPartitions parts) moment next = partitions_added cat parts moment
+change cat bars (AddPartitionsReq db name parts if_not_exists need_result) moment next = list_change cat db name parts moment
+change cat bars (AppendPartition db name values) moment next = partition_appended cat (lower db) (lower name) (meant_values (by_values values)) moment
+change cat bars (AppendPartitionByName db name called) moment next = partition_appended cat (lower db) (lower name) (meant_values (by_name called)) moment
+change cat bars (DropPartition db name values) moment next = Some (partition_dropped cat (lower db) (lower name) (meant_values (by_values values)))
+change cat bars (DropPartitionByName db name called) moment next = Some (partition_dropped cat (lower db) (lower name) (meant_values (by_name called)))
+change cat bars (GetPartition db name values) moment next = None
+change cat bars (GetPartitionByName db name called) moment next = None
+change cat bars (GetPartitions db name max) moment next = None
+change cat bars (GetPartitionNames db name max) moment next = None
+change cat bars (GetPartitionsPs db name values max) moment next = None
+change cat bars (GetPartitionNamesPs db name values max) moment next = None
+change cat bars (GetPartitionsByNames db name names) moment next = None
+change cat bars (AlterPartition db name part) moment next = parts_altered cat (lower db) (lower name) (part ∷ []) moment
+change cat bars (AlterPartitions db name parts) moment next = parts_altered cat (lower db) (lower name) parts moment
+change cat bars (RenamePartition db name values part) moment next = Some (partition_renamed cat (lower db) (lower name) values part moment)
 change cat bars (GetNextNotification last max) moment next = None
 change cat bars GetCurrentNotificationEventId moment next = None
 
@@ -87,6 +124,23 @@ result_of cat bars (GetTableObjectsByName db names) moment next = Tables (tables
 result_of cat bars (AlterTable db name new) moment next = Nothing
 result_of cat bars (GetFields db name) moment next = columns_as (table cat (lower db) (lower name))
 result_of cat bars (GetSchema db name) moment next = schema_as (table cat (lower db) (lower name))
+result_of cat bars (AddPartition part) moment next = list_told told.All cat part.db part.table (part ∷ []) moment
+result_of cat bars (AddPartitions parts) moment next = count_added cat parts moment
+result_of cat bars (AddPartitionsReq db name parts if_not_exists need_result) moment next = list_told (told_if need_result) cat db name parts moment
+result_of cat bars (AppendPartition db name values) moment next = appended_as cat (lower db) (lower name) (meant_values (by_values values)) moment
+result_of cat bars (AppendPartitionByName db name called) moment next = appended_as cat (lower db) (lower name) (meant_values (by_name called)) moment
+result_of cat bars (DropPartition db name values) moment next = Flag true
+result_of cat bars (DropPartitionByName db name called) moment next = Flag true
+result_of cat bars (GetPartition db name values) moment next = meant_as cat (lower db) (lower name) (by_values values)
+result_of cat bars (GetPartitionByName db name called) moment next = meant_as cat (lower db) (lower name) (by_name called)
+result_of cat bars (GetPartitions db name max) moment next = parts_listed cat (lower db) (lower name) [] max
+result_of cat bars (GetPartitionNames db name max) moment next = names_listed cat (lower db) (lower name) [] max
+result_of cat bars (GetPartitionsPs db name values max) moment next = parts_listed cat (lower db) (lower name) values max
+result_of cat bars (GetPartitionNamesPs db name values max) moment next = names_listed cat (lower db) (lower name) values max
+result_of cat bars (GetPartitionsByNames db name names) moment next = Parts (parts_named cat (lower db) (lower name) names)
+result_of cat bars (AlterPartition db name part) moment next = Nothing
+result_of cat bars (AlterPartitions db name parts) moment next = Nothing
+result_of cat bars (RenamePartition db name values part) moment next = Nothing
 result_of cat bars (GetNextNotification last max) moment next = Nothing
 result_of cat bars GetCurrentNotificationEventId moment next = Nothing
 

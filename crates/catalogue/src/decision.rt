@@ -9,6 +9,13 @@ ghost use Rattle.catalogue.specs.Rules.{decision, lacks_number, ruled};
 use crate::databases::{
     alter_database, create_database, drop_database, get_all_databases, get_database, get_databases,
 };
+use crate::meant::Meant;
+use crate::part_adds::{add_partition, add_partitions, add_requested, append_partition};
+use crate::part_changes::{alter_partition, alter_partitions, drop_partition, rename_partition};
+use crate::part_reads::{
+    get_partition, get_partition_names, get_partition_names_ps, get_partitions,
+    get_partitions_by_names, get_partitions_ps,
+};
 use crate::table_changes::{decide_alter_table, decide_create_table, decide_drop_table};
 use crate::table_reads::{
     get_all_tables, get_fields, get_schema, get_table, get_table_req, get_tables, get_tables_named,
@@ -23,10 +30,13 @@ pub const DATABASE_LIMIT: u64 = 1_000_000;
 /// How many tables a database has at most.
 pub const TABLE_LIMIT: u64 = 1_000_000;
 
+/// How many partitions a table has at most.
+pub const PARTITION_LIMIT: u64 = 1_000_000;
+
 /// Decides a call over a catalogue: its refusal, or its change and its result. It needs a call that
 /// is no poll. `bars` says what bars changes, `moment` is the time in seconds since 1970, and `next`
-/// the number that an event of this call would get. A change that it tells has one operation, and can
-/// be taken.
+/// the number that an event of this call would get. A change that it tells has one operation, or puts
+/// partitions under one table, and it can be taken.
 pub fn decide(alloc: Global, cat: &Cat, bars: &Bars, call: &Call, moment: u64, next: u64) -> Decided
     requires { poll_of call.now ≡ None }
     ensures decided { Decides (decision cat.now bars.now call.now moment next) result }
@@ -97,6 +107,75 @@ fn decide_by_rules(
         }
         Call::GetFields { db, table } => get_fields(alloc, cat, db, table),
         Call::GetSchema { db, table } => get_schema(alloc, cat, db, table),
+        Call::AddPartition { part } => add_partition(alloc, cat, bars, part, moment),
+        Call::AddPartitions { parts } => add_partitions(alloc, cat, bars, parts, moment),
+        Call::AddPartitionsReq {
+            db,
+            table,
+            parts,
+            if_not_exists,
+            need_result,
+        } => add_requested(
+            alloc,
+            cat,
+            bars,
+            db,
+            table,
+            parts,
+            *if_not_exists,
+            *need_result,
+            moment,
+        ),
+        Call::AppendPartition { db, table, values } => {
+            let meant = Meant::Values(values);
+            append_partition(alloc, cat, bars, db, table, &meant, moment)
+        }
+        Call::AppendPartitionByName { db, table, name } => {
+            append_partition(alloc, cat, bars, db, table, &Meant::Name(name), moment)
+        }
+        Call::DropPartition { db, table, values } => {
+            drop_partition(alloc, cat, bars, db, table, &Meant::Values(values))
+        }
+        Call::DropPartitionByName { db, table, name } => {
+            drop_partition(alloc, cat, bars, db, table, &Meant::Name(name))
+        }
+        Call::GetPartition { db, table, values } => {
+            get_partition(alloc, cat, db, table, &Meant::Values(values))
+        }
+        Call::GetPartitionByName { db, table, name } => {
+            get_partition(alloc, cat, db, table, &Meant::Name(name))
+        }
+        Call::GetPartitions { db, table, max } => get_partitions(alloc, cat, db, table, *max),
+        Call::GetPartitionNames { db, table, max } => {
+            get_partition_names(alloc, cat, db, table, *max)
+        }
+        Call::GetPartitionsPs {
+            db,
+            table,
+            values,
+            max,
+        } => get_partitions_ps(alloc, cat, db, table, values, *max),
+        Call::GetPartitionNamesPs {
+            db,
+            table,
+            values,
+            max,
+        } => get_partition_names_ps(alloc, cat, db, table, values, *max),
+        Call::GetPartitionsByNames { db, table, names } => {
+            get_partitions_by_names(alloc, cat, db, table, names)
+        }
+        Call::AlterPartition { db, table, part } => {
+            alter_partition(alloc, cat, bars, db, table, part, moment)
+        }
+        Call::AlterPartitions { db, table, parts } => {
+            alter_partitions(alloc, cat, bars, db, table, parts, moment)
+        }
+        Call::RenamePartition {
+            db,
+            table,
+            values,
+            part,
+        } => rename_partition(alloc, cat, bars, db, table, values, part, moment),
         Call::GetNextNotification { last: _, max: _ } => unreachable!(),
         Call::GetCurrentNotificationEventId => unreachable!(),
     }

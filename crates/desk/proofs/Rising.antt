@@ -4,7 +4,7 @@ use Rattle.std.specs.Prelude.{cond}
 use Rattle.std.proofs.lemmas.Map.{keys-set_value}
 use Rattle.std.specs.BTreeMap.{insert_entry}
 use Rattle.std.specs.Cmp.{IsTotalOrder}
-use Rattle.std.specs.Cmp.Lexicographic.{slice_cmp, nat_list_cmp_total}
+use Rattle.std.specs.Cmp.Lexicographic.{lists_total, slice_cmp, nat_list_cmp_total}
 use Rattle.std.specs.List.{AllByRecursion}
 use Rattle.std.specs.List.Sorted.{IsStrictlySortedBy}
 use Rattle.std.specs.Map.{keys_of, lookup, remove_entry, set_value}
@@ -12,7 +12,10 @@ use Rattle.std.specs.Ordering.{match_ordering, nat_cmp, ordering_reverse}
 use Rattle.std.specs.declared.cmp.Ordering.{Ordering}
 use Rattle.std.specs.declared.cmp.Ordering.TheVariants.{Less, Equal, Greater}
 use Rattle.cat_objects.specs.Catalogue.{at_name, is_name, put_at}
-use Rattle.desk.specs.Laws.{AreRising}
+use Rattle.cat_objects.specs.Changes.{changed_value}
+use Rattle.cat_objects.specs.Parts.{PartList, are_values, at_values, put_part, without_part}
+use Rattle.cat_values.specs.declared.records.PartRec.{PartRec}
+use Rattle.desk.specs.Laws.{AreRising, ValuesRise}
 
 -- ---- keys
 
@@ -77,6 +80,17 @@ no_names X = tt
 pub with_other_value : {X : Type 0} (test : List ℕ → Bool) (es : List (List ℕ × X)) (v : X) → AreRising es → AreRising (set_value test es v)
 with_other_value test es v rise = subst (λ (ks : List (List ℕ)). IsStrictlySortedBy (slice_cmp nat_cmp) ks) (sym (keys-set_value test es v)) rise
 
+changed_keys : {X : Type 0} (test : List ℕ → Bool) (change : X → X) (es : List (List ℕ × X)) → keys_of (changed_value test change es) ≡ keys_of es
+changed_keys test change [] = refl
+changed_keys {X} test change (e ∷ es) = by_test (test e.0)
+  where
+    by_test : (b : Bool) → keys_of (cond b ((e.0, change e.1) ∷ es) (e ∷ changed_value test change es)) ≡ keys_of (e ∷ es)
+    by_test true = refl
+    by_test false = ap (λ (ks : List (List ℕ)). e.0 ∷ ks) (changed_keys test change es)
+
+pub with_changed_value : {X : Type 0} (test : List ℕ → Bool) (change : X → X) (es : List (List ℕ × X)) → AreRising es → AreRising (changed_value test change es)
+with_changed_value test change es rise = subst (λ (ks : List (List ℕ)). IsStrictlySortedBy (slice_cmp nat_cmp) ks) (sym (changed_keys test change es)) rise
+
 pub without_name : {X : Type 0} (name : List ℕ) (es : List (List ℕ × X)) → AreRising es → AreRising (remove_entry (is_name name) es)
 without_name name es rise = rising_remove (slice_cmp nat_cmp) (is_name name) es rise
 
@@ -86,6 +100,22 @@ with_name {X} name v es rise = by_test (is_some (at_name name es))
     by_test : (b : Bool) → AreRising (cond b (set_value (is_name name) es v) (insert_entry (slice_cmp nat_cmp) es name v))
     by_test true = with_other_value (is_name name) es v rise
     by_test false = rising_insert (slice_cmp nat_cmp) nat_list_cmp_total es name v rise
+
+-- ---- values of partitions
+
+pub no_values : ValuesRise []
+unfolding IsStrictlySortedBy
+no_values = tt
+
+pub with_part : (values : List (List ℕ)) (rec : PartRec) (parts : PartList) → ValuesRise parts → ValuesRise (put_part values rec parts)
+with_part values rec parts rise = by_test (is_some (at_values values parts))
+  where
+    by_test : (b : Bool) → ValuesRise (cond b (set_value (are_values values) parts rec) (insert_entry (slice_cmp (slice_cmp nat_cmp)) parts values rec))
+    by_test true = subst (λ (ks : List (List (List ℕ))). IsStrictlySortedBy (slice_cmp (slice_cmp nat_cmp)) ks) (sym (keys-set_value (are_values values) parts rec)) rise
+    by_test false = rising_insert (slice_cmp (slice_cmp nat_cmp)) (lists_total nat_list_cmp_total) parts values rec rise
+
+pub less_part : (values : List (List ℕ)) (parts : PartList) → ValuesRise parts → ValuesRise (without_part values parts)
+less_part values parts rise = rising_remove (slice_cmp (slice_cmp nat_cmp)) (are_values values) parts rise
 
 -- ---- what holds of all values
 
@@ -108,6 +138,14 @@ module _ {K X : Type 0} (P : X → Type 0) where
   pub each_set : (test : K → Bool) (es : List (K × X)) (v : X) → P v → Each es → Each (set_value test es v)
   each_set test [] v one all = tt
   each_set test (e ∷ es) v one all = set_by (test e.0) e es (set_value test es v) v one all (each_set test es v one all.1)
+
+  changed_by : (b : Bool) (e : K × X) (es rest : List (K × X)) (change : X → X) → ((x : X) → P x → P (change x)) → Each (e ∷ es) → Each rest → Each (cond b ((e.0, change e.1) ∷ es) (e ∷ rest))
+  changed_by true e es rest change keeps all later = (keeps e.1 all.0, all.1)
+  changed_by false e es rest change keeps all later = (all.0, later)
+
+  pub each_changed : (test : K → Bool) (change : X → X) (es : List (K × X)) → ((x : X) → P x → P (change x)) → Each es → Each (changed_value test change es)
+  each_changed test change [] keeps all = tt
+  each_changed test change (e ∷ es) keeps all = changed_by (test e.0) e es (changed_value test change es) change keeps all (each_changed test change es keeps all.1)
 
   insert_by : (o : Ordering) (e : K × X) (es rest : List (K × X)) (k : K) (v : X) → P v → Each (e ∷ es) → Each rest → Each (match_ordering o ((k, v) ∷ e ∷ es) ((e.0, v) ∷ es) (e ∷ rest))
   insert_by Less e es rest k v one all later = (one, all)

@@ -12,6 +12,8 @@ use Rattle.cat_types.specs.declared.steps.Step.{Step}
 use Rattle.cat_types.specs.declared.steps.Step.TheVariants.{Client}
 use Rattle.cat_objects.specs.Catalogue.{Catalogue}
 use Rattle.cat_objects.specs.Changes.{done}
+use Rattle.cat_objects.specs.Parts.{PartList}
+use Rattle.cat_objects.specs.declared.held.HeldTable.{HeldTable}
 use Rattle.catalogue.specs.Polls.{poll_of}
 use Rattle.desk.specs.History.{Entry, Transition, took, reopened, Point, Start, MayFollow, events_at, events_from, next, point_after, point_of}
 use Rattle.desk.specs.State.{State, due, durable, event_of, is_refused, start, writes}
@@ -141,3 +143,24 @@ TableNamesGoOnRising = (s : Start) (history : List Transition) → TableNamesRis
 abbrev pub TableNamesOfNewStoresRise : Type 0
 TableNamesOfNewStoresRise = (id : List ℕ) (base fault : ℕ) (past : List Lies) (history : List Transition)
     → TableNamesRise (point_after (point_of (record { state = start id base; fault = fault; past = past })) history).state.catalogue
+
+-- the value lists of these partitions rise strictly, text by text, each by its bytes
+abbrev pub ValuesRise : PartList → Type 0
+ValuesRise parts = IsStrictlySortedBy (slice_cmp (slice_cmp nat_cmp)) (keys_of parts)
+
+-- the value lists of the partitions of each of these tables rise strictly
+abbrev pub EachValuesRise : List (List ℕ × HeldTable) → Type 0
+EachValuesRise tables = AllByRecursion (λ e. ValuesRise e.1.parts) tables
+
+-- the value lists of the partitions of each table of a catalogue rise strictly
+abbrev pub PartValuesRise : Catalogue → Type 0
+PartValuesRise cat = AllByRecursion (λ e. EachValuesRise e.1.tables) cat.databases
+
+-- Values of partitions that rise at the start rise after every history.
+abbrev pub PartValuesGoOnRising : Type 0
+PartValuesGoOnRising = (s : Start) (history : List Transition) → PartValuesRise s.state.catalogue → PartValuesRise (point_after (point_of s) history).state.catalogue
+
+-- Values of partitions rise after every history of a new store.
+abbrev pub PartValuesOfNewStoresRise : Type 0
+PartValuesOfNewStoresRise = (id : List ℕ) (base fault : ℕ) (past : List Lies) (history : List Transition)
+    → PartValuesRise (point_after (point_of (record { state = start id base; fault = fault; past = past })) history).state.catalogue

@@ -8,6 +8,8 @@ ghost use Rattle.desk.specs.Laws.{
   OnlyUnsettledAreFound,
   OpenedIsDurable,
   OpeningsGiveTheDisks,
+  PartValuesGoOnRising,
+  PartValuesOfNewStoresRise,
   PollsWriteNothing,
   TableNamesGoOnRising,
   TableNamesOfNewStoresRise,
@@ -55,4 +57,11 @@ pub fn names_rise()
 pub fn table_names_rise()
     ensures go_on { TableNamesGoOnRising }
     ensures new_stores { TableNamesOfNewStoresRise }
+{}
+
+/// The value lists of the partitions of each table rise strictly after every history of a new store, and
+/// of any start at which they rise.
+pub fn part_values_rise()
+    ensures go_on { PartValuesGoOnRising }
+    ensures new_stores { PartValuesOfNewStoresRise }
 {}

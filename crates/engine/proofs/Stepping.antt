@@ -1,5 +1,5 @@
 -- What a step did.
-use Rattle.std.proofs.Common.{◌≡◌, ℕ, ◌+◌, ◌==◌, Bool, true, false, List, [], ◌∷◌, Option, None, Some, Result, Ok, Err, refl, sym, ◌∙◌, ap, subst, eq-eqb}
+use Rattle.std.proofs.Common.{◌≡◌, ℕ, ◌+◌, ◌==◌, ◌||◌, Bool, true, false, List, [], ◌∷◌, Option, None, Some, Result, Ok, Err, refl, sym, ◌∙◌, ap, subst, eq-eqb}
 use Rattle.std.specs.Prelude.{cond, is_some}
 use Rattle.cat_types.specs.declared.calls.Call.{Call}
 use Rattle.cat_types.specs.declared.changes.Change.{Change}
@@ -8,7 +8,7 @@ use Rattle.cat_types.specs.declared.replies.Reply.{Reply}
 use Rattle.cat_types.specs.declared.steps.Answer.TheVariants as answer
 use Rattle.cat_types.specs.declared.steps.Step.TheVariants.{Client}
 use Rattle.cat_objects.specs.Catalogue.{Catalogue}
-use Rattle.cat_objects.specs.Changes.{are_some, has_operation, is_any, is_one, takes_call, takes_change}
+use Rattle.cat_objects.specs.Changes.{are_puts, are_some, has_operation, is_any, is_one, takes_call, takes_change}
 use Rattle.catalogue.specs.Decisions.{Decision, accepted, refused, told}
 use Rattle.catalogue.specs.Polls.{poll_of}
 use Rattle.catalogue.specs.declared.decided.Decided.TheVariants as decided
@@ -28,14 +28,14 @@ no_change (refused refusal) s moment reply is = (refl, cc)
 no_change (accepted None result) s moment reply is = (refl, cc)
 no_change (accepted (Some change) result) s moment reply is = absurd cc
 
--- a single operation is an operation
-one_is_some : (ops : List Op) → is_one is_any ops ≡ true → are_some ops ≡ true
-one_is_some [] is = absurd cc
-one_is_some (op ∷ ops) is = refl
+-- operations that a call makes are some
+calls_operate : (ops : List Op) → (is_one is_any ops || are_puts ops) ≡ true → are_some ops ≡ true
+calls_operate [] is = absurd cc
+calls_operate (op ∷ ops) is = refl
 
 -- a change that is taken has an operation
 operates : (cat : Catalogue) (id : ℕ) (change : Change) → takes_call cat id change ≡ true → has_operation change ≡ true
-operates cat id change is = one_is_some change.ops (last_of (takes_change cat id change) _ is)
+operates cat id change is = calls_operate change.ops (last_of (takes_change cat id change) _ is)
 
 -- and its event is taken
 event_taken : (s : State) (moment : ℕ) (change : Change) → takes_call s.catalogue (s.newest + 1) change ≡ true → takes s (kept (next_event s moment change)) ≡ true

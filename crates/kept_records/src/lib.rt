@@ -5,9 +5,11 @@
 mod dates;
 mod keys;
 mod lowering;
+mod partitions;
 mod statistics;
 mod tables;
 
 pub use keys::have_same_keys;
 pub use lowering::lower_columns;
+pub use partitions::{altered_part, appended_part, made_part};
 pub use tables::{altered_table, made_table};

@@ -11,10 +11,13 @@ use Rattle.std.specs.Map.{keys_of, lookup, set_value}
 use Rattle.std.specs.Ordering.{nat_cmp}
 use Rattle.std.specs.Str.{bytes_eq}
 use Rattle.cat_types.specs.declared.arguments.DbArg.{DbArg}
+use Rattle.cat_types.specs.declared.arguments.PartArg.{PartArg}
 use Rattle.cat_types.specs.declared.arguments.TableArg.{TableArg}
 use Rattle.cat_types.specs.declared.calls.Call.{Call}
-use Rattle.cat_types.specs.declared.calls.Call.TheVariants.{AlterDatabase, AlterTable, CreateDatabase, CreateTable, DropDatabase, DropTable, GetAllDatabases, GetAllTables, GetCurrentNotificationEventId, GetDatabase, GetDatabases, GetFields, GetNextNotification, GetSchema, GetTable, GetTableObjectsByName, GetTableReq, GetTables}
+use Rattle.cat_types.specs.declared.calls.Call.TheVariants.{AddPartition, AddPartitions, AddPartitionsReq, AlterDatabase, AlterPartition, AlterPartitions, AlterTable, AppendPartition, AppendPartitionByName, CreateDatabase, CreateTable, DropDatabase, DropPartition, DropPartitionByName, DropTable, GetAllDatabases, GetAllTables, GetCurrentNotificationEventId, GetDatabase, GetDatabases, GetFields, GetNextNotification, GetPartition, GetPartitionByName, GetPartitionNames, GetPartitionNamesPs, GetPartitions, GetPartitionsByNames, GetPartitionsPs, GetSchema, GetTable, GetTableObjectsByName, GetTableReq, GetTables, RenamePartition}
 use Rattle.cat_types.specs.declared.changes.Change.{Change}
+use Rattle.cat_types.specs.declared.changes.EventKind.{EventKind}
+use Rattle.cat_types.specs.declared.changes.EventKind.TheVariants as kind
 use Rattle.cat_types.specs.declared.changes.Op.{Op}
 use Rattle.cat_types.specs.declared.changes.Op.TheVariants.{DropDb, DropPart, MovePart, MoveTable, PutDb, PutPart, PutTable, DropTable as DropTableOp}
 use Rattle.cat_types.specs.declared.replies.Reply.{Reply}
@@ -24,10 +27,14 @@ use Rattle.cat_types.specs.declared.steps.Answer.TheVariants as answer
 use Rattle.cat_types.specs.declared.steps.Step.{Step}
 use Rattle.cat_types.specs.declared.steps.Step.TheVariants as step
 use Rattle.cat_objects.specs.Catalogue.{Catalogue, at_name, database, has_database, is_name, put_at, table}
-use Rattle.cat_objects.specs.Changes.{changed_in, done, done_op, done_ops, has_operation, put_table, with_tables, without_table}
+use Rattle.cat_objects.specs.Changes.{changed_in, changed_parts, done, done_op, done_ops, has_operation, moved_table, put_table, with_tables, without_table}
+use Rattle.cat_objects.specs.Parts.{PartList, moved_part, put_part, without_part}
+use Rattle.cat_values.specs.declared.records.PartRec.{PartRec}
 use Rattle.catalogue.specs.Databases.{Rule, alter_database_rules, database_altered, database_dropped, drop_database_rules, kept_name, matching}
 use Rattle.catalogue.specs.Decisions.{decided_by}
-use Rattle.catalogue.specs.Rules.{first_broken, first_refusal, lacks_number, refusal, result_of, rules_of}
+use Rattle.catalogue.specs.PartChanges.{all_altered, appended, list_added, list_change, part_change, partition_appended, partition_dropped, partition_renamed, partitions_added, parts_altered, parts_put, put_under, renaming, revalues}
+use Rattle.catalogue.specs.Partitions.{by_name, by_values, meant_values}
+use Rattle.catalogue.specs.Rules.{breaks, first_broken, first_refusal, lacks_number, refusal, result_of, rules_of}
 use Rattle.catalogue.specs.Tables.{renames, table_altered, table_created, table_dropped, table_put}
 use Rattle.catalogue.specs.declared.bars.Bars.{Bars}
 use Rattle.cat_objects.specs.declared.held.HeldDb.{HeldDb}
@@ -89,6 +96,23 @@ lists p e (GetTableObjectsByName db tables) moment due reply has is may told whi
 lists p e (AlterTable db name new) moment due reply has is may told which = tt
 lists p e (GetFields db name) moment due reply has is may told which = tt
 lists p e (GetSchema db name) moment due reply has is may told which = tt
+lists p e (AddPartition part) moment due reply has is may told which = tt
+lists p e (AddPartitions parts) moment due reply has is may told which = tt
+lists p e (AddPartitionsReq db name parts if_not_exists need_result) moment due reply has is may told which = tt
+lists p e (AppendPartition db name values) moment due reply has is may told which = tt
+lists p e (AppendPartitionByName db name called) moment due reply has is may told which = tt
+lists p e (DropPartition db name values) moment due reply has is may told which = tt
+lists p e (DropPartitionByName db name called) moment due reply has is may told which = tt
+lists p e (GetPartition db name values) moment due reply has is may told which = tt
+lists p e (GetPartitionByName db name called) moment due reply has is may told which = tt
+lists p e (GetPartitions db name max) moment due reply has is may told which = tt
+lists p e (GetPartitionNames db name max) moment due reply has is may told which = tt
+lists p e (GetPartitionsPs db name values max) moment due reply has is may told which = tt
+lists p e (GetPartitionNamesPs db name values max) moment due reply has is may told which = tt
+lists p e (GetPartitionsByNames db name named) moment due reply has is may told which = tt
+lists p e (AlterPartition db name part) moment due reply has is may told which = tt
+lists p e (AlterPartitions db name parts) moment due reply has is may told which = tt
+lists p e (RenamePartition db name values part) moment due reply has is may told which = tt
 lists p e (GetNextNotification last max) moment due reply has is may told which = tt
 lists p e GetCurrentNotificationEventId moment due reply has is may told which = tt
 
@@ -114,10 +138,10 @@ op_keeps name born cat (PutDb rec) on = absurd on
 op_keeps name born cat DropDb on = absurd on
 op_keeps name born cat (PutTable table at rec) on = tables_keep (database cat name) name (put_table table at rec) cat
 op_keeps name born cat (DropTableOp table at) on = tables_keep (database cat name) name (without_table table) cat
-op_keeps name born cat (MoveTable table at to rec) on = tables_keep (database cat name) name (λ tables. without_table table (put_table to at rec tables)) cat
-op_keeps name born cat (PutPart table at values rec) on = refl
-op_keeps name born cat (DropPart table at values) on = refl
-op_keeps name born cat (MovePart table at values to rec) on = refl
+op_keeps name born cat (MoveTable table at to rec) on = tables_keep (database cat name) name (moved_table table to at rec) cat
+op_keeps name born cat (PutPart table at values rec) on = tables_keep (database cat name) name (changed_parts table (put_part values rec)) cat
+op_keeps name born cat (DropPart table at values) on = tables_keep (database cat name) name (changed_parts table (without_part values)) cat
+op_keeps name born cat (MovePart table at values to rec) on = tables_keep (database cat name) name (changed_parts table (moved_part values to rec)) cat
 
 ops_keep : (name : List ℕ) (born : ℕ) (cat : Catalogue) (ops : List Op) → AllByRecursion IsOnTables ops → keys_of (done_ops name born cat ops).databases ≡ keys_of cat.databases
 ops_keep name born cat [] on = refl
@@ -219,26 +243,87 @@ changes s moment rules late c r keeps has = by_rules (first_broken rules) refl
     by_rules None is = by_number late (keeps is)
     by_rules (Some refusal) is = has
 
+-- a call that changes nothing, whatever it is refused for
+reads_only : (s : State) (call : Call) (moment : ℕ) → HasDefault s.catalogue
+    → HasDefault (left s moment (refusal s.catalogue (bars_of s) call moment (s.newest + 1)) None (result_of s.catalogue (bars_of s) call moment (s.newest + 1))).catalogue
+reads_only s call moment has = reads s moment (refusal s.catalogue (bars_of s) call moment (s.newest + 1)) (result_of s.catalogue (bars_of s) call moment (s.newest + 1)) has
+
+-- one that changes something, after which `default` stands alone where its rules aren't broken
+changes_so : (s : State) (call : Call) (moment : ℕ) (c : Change) → (breaks s.catalogue (bars_of s) call ≡ None → HasDefault (done c s.catalogue)) → HasDefault s.catalogue
+    → HasDefault (left s moment (first_refusal (breaks s.catalogue (bars_of s) call) (lacks_number (Some c) (s.newest + 1))) (Some c) (result_of s.catalogue (bars_of s) call moment (s.newest + 1))).catalogue
+changes_so s call moment c keeps has = changes s moment (rules_of s.catalogue (bars_of s) call) (lacks_number (Some c) (s.newest + 1)) c (result_of s.catalogue (bars_of s) call moment (s.newest + 1)) keeps has
+
+-- one that changes tables and partitions, if anything
+on_tables : (s : State) (call : Call) (moment : ℕ) (o : Option Change) → ((c : Change) → o ≡ Some c → AllByRecursion IsOnTables c.ops) → HasDefault s.catalogue
+    → HasDefault (left s moment (first_refusal (breaks s.catalogue (bars_of s) call) (lacks_number o (s.newest + 1))) o (result_of s.catalogue (bars_of s) call moment (s.newest + 1))).catalogue
+on_tables s call moment None on has = reads s moment (first_refusal (breaks s.catalogue (bars_of s) call) None) (result_of s.catalogue (bars_of s) call moment (s.newest + 1)) has
+on_tables s call moment (Some c) on has = changes_so s call moment c (λ none. table_keeps c s.catalogue (on c refl) has) has
+
+-- ---- changes of partitions
+
+puts_on : (name : List ℕ) (held : Option HeldTable) (parts : PartList) → AllByRecursion IsOnTables (map (put_under name held) parts)
+puts_on name held [] = tt
+puts_on name held (part ∷ parts) = (tt, puts_on name held parts)
+
+parts_on : (k : EventKind) (cat : Catalogue) (db name : List ℕ) (parts : PartList) (c : Change) → parts_put k cat db name parts ≡ Some c → AllByRecursion IsOnTables c.ops
+parts_on k cat db name parts c is = by_test (has_operation made) is
+  where
+    made : Change
+    made = part_change k cat db (map (put_under name (table cat db name)) parts)
+
+    by_test : (b : Bool) → cond b (Some made) None ≡ Some c → AllByRecursion IsOnTables c.ops
+    by_test true same = let e : made ≡ c = cc in subst (λ (x : Change). AllByRecursion IsOnTables x.ops) e (puts_on name (table cat db name) parts)
+    by_test false same = absurd cc
+
+added_on : (cat : Catalogue) (parts : List PartArg) (moment : ℕ) (c : Change) → partitions_added cat parts moment ≡ Some c → AllByRecursion IsOnTables c.ops
+added_on cat [] moment c is = absurd cc
+added_on cat (first ∷ more) moment c is =
+    parts_on kind.AddPartition cat (kept_name first.db) (kept_name first.table) (list_added cat first.db first.table (first ∷ more) moment) c is
+
+one_on : (k : EventKind) (cat : Catalogue) (db : List ℕ) (ops : List Op) (c : Change) → AllByRecursion IsOnTables ops → Some (part_change k cat db ops) ≡ Some c → AllByRecursion IsOnTables c.ops
+one_on k cat db ops c on is = let e : part_change k cat db ops ≡ c = cc in subst (λ (x : Change). AllByRecursion IsOnTables x.ops) e on
+
+renaming_on : (o : Option PartRec) (name : List ℕ) (born : ℕ) (values : List (List ℕ)) (new : PartArg) (moment : ℕ) → AllByRecursion IsOnTables (renaming o name born values new moment)
+renaming_on None name born values new moment = tt
+renaming_on (Some old) name born values new moment = either_on (revalues values new) _ _ (tt, tt) (tt, tt)
+
 -- a call that makes no database leaves `default` alone
 leaves : (s : State) (caller : ℕ) (call : Call) (moment : ℕ) → MakesNone (ask.Client call) → HasDefault s.catalogue → HasDefault (due_in s caller (step.Client call moment)).state.catalogue
-leaves s caller GetAllDatabases moment none has = reads s moment (refusal s.catalogue (bars_of s) GetAllDatabases moment (s.newest + 1)) (result_of s.catalogue (bars_of s) GetAllDatabases moment (s.newest + 1)) has
-leaves s caller (GetDatabase name) moment none has = reads s moment (refusal s.catalogue (bars_of s) (GetDatabase name) moment (s.newest + 1)) (result_of s.catalogue (bars_of s) (GetDatabase name) moment (s.newest + 1)) has
+leaves s caller GetAllDatabases moment none has = reads_only s GetAllDatabases moment has
+leaves s caller (GetDatabase name) moment none has = reads_only s (GetDatabase name) moment has
 leaves s caller (CreateDatabase db) moment none has = absurd none
-leaves s caller (DropDatabase name cascade) moment none has = changes s moment (rules_of s.catalogue (bars_of s) (DropDatabase name cascade)) (lacks_number (Some (database_dropped s.catalogue (kept_name (Some name)))) (s.newest + 1)) (database_dropped s.catalogue (kept_name (Some name))) (result_of s.catalogue (bars_of s) (DropDatabase name cascade) moment (s.newest + 1)) (λ is. absurd (never_dropped s.catalogue (bars_of s) (kept_name (Some name)) cascade has is)) has
-leaves s caller (GetDatabases pattern) moment none has = reads s moment (refusal s.catalogue (bars_of s) (GetDatabases pattern) moment (s.newest + 1)) (result_of s.catalogue (bars_of s) (GetDatabases pattern) moment (s.newest + 1)) has
-leaves s caller (AlterDatabase name db) moment none has = changes s moment (rules_of s.catalogue (bars_of s) (AlterDatabase name db)) (lacks_number (Some (database_altered s.catalogue (kept_name (Some name)) db)) (s.newest + 1)) (database_altered s.catalogue (kept_name (Some name)) db) (result_of s.catalogue (bars_of s) (AlterDatabase name db) moment (s.newest + 1)) (λ is. altered s.catalogue (bars_of s) (kept_name (Some name)) db has is) has
-leaves s caller (CreateTable new) moment none has = changes s moment (rules_of s.catalogue (bars_of s) (CreateTable new)) (lacks_number (Some (table_created s.catalogue new moment (s.newest + 1))) (s.newest + 1)) (table_created s.catalogue new moment (s.newest + 1)) (result_of s.catalogue (bars_of s) (CreateTable new) moment (s.newest + 1)) (λ is. table_keeps (table_created s.catalogue new moment (s.newest + 1)) s.catalogue (tt, tt) has) has
-leaves s caller (DropTable db name) moment none has = changes s moment (rules_of s.catalogue (bars_of s) (DropTable db name)) (lacks_number (Some (table_dropped s.catalogue (kept_name (Some db)) (kept_name (Some name)))) (s.newest + 1)) (table_dropped s.catalogue (kept_name (Some db)) (kept_name (Some name))) (result_of s.catalogue (bars_of s) (DropTable db name) moment (s.newest + 1)) (λ is. table_keeps (table_dropped s.catalogue (kept_name (Some db)) (kept_name (Some name))) s.catalogue (tt, tt) has) has
-leaves s caller (GetTables db pattern) moment none has = reads s moment (refusal s.catalogue (bars_of s) (GetTables db pattern) moment (s.newest + 1)) (result_of s.catalogue (bars_of s) (GetTables db pattern) moment (s.newest + 1)) has
-leaves s caller (GetAllTables db) moment none has = reads s moment (refusal s.catalogue (bars_of s) (GetAllTables db) moment (s.newest + 1)) (result_of s.catalogue (bars_of s) (GetAllTables db) moment (s.newest + 1)) has
-leaves s caller (GetTable db name) moment none has = reads s moment (refusal s.catalogue (bars_of s) (GetTable db name) moment (s.newest + 1)) (result_of s.catalogue (bars_of s) (GetTable db name) moment (s.newest + 1)) has
-leaves s caller (GetTableReq db name) moment none has = reads s moment (refusal s.catalogue (bars_of s) (GetTableReq db name) moment (s.newest + 1)) (result_of s.catalogue (bars_of s) (GetTableReq db name) moment (s.newest + 1)) has
-leaves s caller (GetTableObjectsByName db tables) moment none has = reads s moment (refusal s.catalogue (bars_of s) (GetTableObjectsByName db tables) moment (s.newest + 1)) (result_of s.catalogue (bars_of s) (GetTableObjectsByName db tables) moment (s.newest + 1)) has
-leaves s caller (AlterTable db name new) moment none has = changes s moment (rules_of s.catalogue (bars_of s) (AlterTable db name new)) (lacks_number (Some (table_altered s.catalogue (kept_name (Some db)) (kept_name (Some name)) new moment)) (s.newest + 1)) (table_altered s.catalogue (kept_name (Some db)) (kept_name (Some name)) new moment) (result_of s.catalogue (bars_of s) (AlterTable db name new) moment (s.newest + 1)) (λ is. table_keeps (table_altered s.catalogue (kept_name (Some db)) (kept_name (Some name)) new moment) s.catalogue (put_on (table s.catalogue (kept_name (Some db)) (kept_name (Some name))) (kept_name (Some name)) new moment) has) has
-leaves s caller (GetFields db name) moment none has = reads s moment (refusal s.catalogue (bars_of s) (GetFields db name) moment (s.newest + 1)) (result_of s.catalogue (bars_of s) (GetFields db name) moment (s.newest + 1)) has
-leaves s caller (GetSchema db name) moment none has = reads s moment (refusal s.catalogue (bars_of s) (GetSchema db name) moment (s.newest + 1)) (result_of s.catalogue (bars_of s) (GetSchema db name) moment (s.newest + 1)) has
-leaves s caller (GetNextNotification last max) moment none has = reads s moment (refusal s.catalogue (bars_of s) (GetNextNotification last max) moment (s.newest + 1)) (result_of s.catalogue (bars_of s) (GetNextNotification last max) moment (s.newest + 1)) has
-leaves s caller GetCurrentNotificationEventId moment none has = reads s moment (refusal s.catalogue (bars_of s) GetCurrentNotificationEventId moment (s.newest + 1)) (result_of s.catalogue (bars_of s) GetCurrentNotificationEventId moment (s.newest + 1)) has
+leaves s caller (DropDatabase name cascade) moment none has = changes_so s (DropDatabase name cascade) moment (database_dropped s.catalogue (kept_name (Some name))) (λ is. absurd (never_dropped s.catalogue (bars_of s) (kept_name (Some name)) cascade has is)) has
+leaves s caller (GetDatabases pattern) moment none has = reads_only s (GetDatabases pattern) moment has
+leaves s caller (AlterDatabase name db) moment none has = changes_so s (AlterDatabase name db) moment (database_altered s.catalogue (kept_name (Some name)) db) (λ is. altered s.catalogue (bars_of s) (kept_name (Some name)) db has is) has
+leaves s caller (CreateTable new) moment none has = changes_so s (CreateTable new) moment (table_created s.catalogue new moment (s.newest + 1)) (λ is. table_keeps (table_created s.catalogue new moment (s.newest + 1)) s.catalogue (tt, tt) has) has
+leaves s caller (DropTable db name) moment none has = changes_so s (DropTable db name) moment (table_dropped s.catalogue (kept_name (Some db)) (kept_name (Some name))) (λ is. table_keeps (table_dropped s.catalogue (kept_name (Some db)) (kept_name (Some name))) s.catalogue (tt, tt) has) has
+leaves s caller (GetTables db pattern) moment none has = reads_only s (GetTables db pattern) moment has
+leaves s caller (GetAllTables db) moment none has = reads_only s (GetAllTables db) moment has
+leaves s caller (GetTable db name) moment none has = reads_only s (GetTable db name) moment has
+leaves s caller (GetTableReq db name) moment none has = reads_only s (GetTableReq db name) moment has
+leaves s caller (GetTableObjectsByName db tables) moment none has = reads_only s (GetTableObjectsByName db tables) moment has
+leaves s caller (AlterTable db name new) moment none has = changes_so s (AlterTable db name new) moment (table_altered s.catalogue (kept_name (Some db)) (kept_name (Some name)) new moment) (λ is. table_keeps (table_altered s.catalogue (kept_name (Some db)) (kept_name (Some name)) new moment) s.catalogue (put_on (table s.catalogue (kept_name (Some db)) (kept_name (Some name))) (kept_name (Some name)) new moment) has) has
+leaves s caller (GetFields db name) moment none has = reads_only s (GetFields db name) moment has
+leaves s caller (GetSchema db name) moment none has = reads_only s (GetSchema db name) moment has
+leaves s caller (AddPartition part) moment none has = on_tables s (AddPartition part) moment (list_change s.catalogue part.db part.table (part ∷ []) moment) (parts_on kind.AddPartition s.catalogue (kept_name part.db) (kept_name part.table) (list_added s.catalogue part.db part.table (part ∷ []) moment)) has
+leaves s caller (AddPartitions parts) moment none has = on_tables s (AddPartitions parts) moment (partitions_added s.catalogue parts moment) (added_on s.catalogue parts moment) has
+leaves s caller (AddPartitionsReq db name parts if_not_exists need_result) moment none has = on_tables s (AddPartitionsReq db name parts if_not_exists need_result) moment (list_change s.catalogue db name parts moment) (parts_on kind.AddPartition s.catalogue (kept_name db) (kept_name name) (list_added s.catalogue db name parts moment)) has
+leaves s caller (AppendPartition db name values) moment none has = on_tables s (AppendPartition db name values) moment (partition_appended s.catalogue (kept_name (Some db)) (kept_name (Some name)) (meant_values (by_values values)) moment) (parts_on kind.AddPartition s.catalogue (kept_name (Some db)) (kept_name (Some name)) (appended (table s.catalogue (kept_name (Some db)) (kept_name (Some name))) (meant_values (by_values values)) moment)) has
+leaves s caller (AppendPartitionByName db name called) moment none has = on_tables s (AppendPartitionByName db name called) moment (partition_appended s.catalogue (kept_name (Some db)) (kept_name (Some name)) (meant_values (by_name called)) moment) (parts_on kind.AddPartition s.catalogue (kept_name (Some db)) (kept_name (Some name)) (appended (table s.catalogue (kept_name (Some db)) (kept_name (Some name))) (meant_values (by_name called)) moment)) has
+leaves s caller (DropPartition db name values) moment none has = changes_so s (DropPartition db name values) moment (partition_dropped s.catalogue (kept_name (Some db)) (kept_name (Some name)) (meant_values (by_values values))) (λ none. table_keeps (partition_dropped s.catalogue (kept_name (Some db)) (kept_name (Some name)) (meant_values (by_values values))) s.catalogue (tt, tt) has) has
+leaves s caller (DropPartitionByName db name called) moment none has = changes_so s (DropPartitionByName db name called) moment (partition_dropped s.catalogue (kept_name (Some db)) (kept_name (Some name)) (meant_values (by_name called))) (λ none. table_keeps (partition_dropped s.catalogue (kept_name (Some db)) (kept_name (Some name)) (meant_values (by_name called))) s.catalogue (tt, tt) has) has
+leaves s caller (GetPartition db name values) moment none has = reads_only s (GetPartition db name values) moment has
+leaves s caller (GetPartitionByName db name called) moment none has = reads_only s (GetPartitionByName db name called) moment has
+leaves s caller (GetPartitions db name max) moment none has = reads_only s (GetPartitions db name max) moment has
+leaves s caller (GetPartitionNames db name max) moment none has = reads_only s (GetPartitionNames db name max) moment has
+leaves s caller (GetPartitionsPs db name values max) moment none has = reads_only s (GetPartitionsPs db name values max) moment has
+leaves s caller (GetPartitionNamesPs db name values max) moment none has = reads_only s (GetPartitionNamesPs db name values max) moment has
+leaves s caller (GetPartitionsByNames db name named) moment none has = reads_only s (GetPartitionsByNames db name named) moment has
+leaves s caller (AlterPartition db name part) moment none has = on_tables s (AlterPartition db name part) moment (parts_altered s.catalogue (kept_name (Some db)) (kept_name (Some name)) (part ∷ []) moment) (parts_on kind.AlterPartition s.catalogue (kept_name (Some db)) (kept_name (Some name)) (all_altered (table s.catalogue (kept_name (Some db)) (kept_name (Some name))) (part ∷ []) moment)) has
+leaves s caller (AlterPartitions db name parts) moment none has = on_tables s (AlterPartitions db name parts) moment (parts_altered s.catalogue (kept_name (Some db)) (kept_name (Some name)) parts moment) (parts_on kind.AlterPartition s.catalogue (kept_name (Some db)) (kept_name (Some name)) (all_altered (table s.catalogue (kept_name (Some db)) (kept_name (Some name))) parts moment)) has
+leaves s caller (RenamePartition db name values part) moment none has = changes_so s (RenamePartition db name values part) moment (partition_renamed s.catalogue (kept_name (Some db)) (kept_name (Some name)) values part moment) (λ none. table_keeps (partition_renamed s.catalogue (kept_name (Some db)) (kept_name (Some name)) values part moment) s.catalogue (renaming_on _ _ _ values part moment) has) has
+leaves s caller (GetNextNotification last max) moment none has = reads_only s (GetNextNotification last max) moment has
+leaves s caller GetCurrentNotificationEventId moment none has = reads_only s GetCurrentNotificationEventId moment has
 
 stays : (p : Point) (caller : ℕ) (call : Call) (moment : ℕ) (a : Answer) → MakesNone (ask.Client call) → HasDefault p.state.catalogue → HasDefault (state_after_answer p.state caller (step.Client call moment) a).catalogue
 stays p caller call moment answer.NoMemory none has = has

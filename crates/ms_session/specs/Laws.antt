@@ -2,7 +2,7 @@
 use Rattle.std.specs.Prelude.{◌≡◌, ⊤, ℕ, ◌⊎◌, List, [], ◌∷◌, ◌++◌, codes, map, Option, Some}
 use Rattle.std.specs.List.{AllByRecursion}
 use Rattle.hms_outside.specs.Told.{Goes}
-use Rattle.cat_types.specs.declared.calls.Call.TheVariants.{AlterDatabase, AlterTable, CreateDatabase, CreateTable, DropDatabase, DropTable, GetAllDatabases, GetAllTables, GetCurrentNotificationEventId, GetDatabase, GetDatabases, GetFields, GetNextNotification, GetSchema, GetTable, GetTableObjectsByName, GetTableReq, GetTables}
+use Rattle.cat_types.specs.declared.calls.Call.TheVariants.{AddPartition, AddPartitions, AddPartitionsReq, AlterDatabase, AlterPartition, AlterPartitions, AlterTable, AppendPartition, AppendPartitionByName, CreateDatabase, CreateTable, DropDatabase, DropPartition, DropPartitionByName, DropTable, GetAllDatabases, GetAllTables, GetCurrentNotificationEventId, GetDatabase, GetDatabases, GetFields, GetNextNotification, GetPartition, GetPartitionByName, GetPartitionNames, GetPartitionNamesPs, GetPartitions, GetPartitionsByNames, GetPartitionsPs, GetSchema, GetTable, GetTableObjectsByName, GetTableReq, GetTables, RenamePartition}
 use Rattle.cat_types.specs.declared.replies.Reply.{Reply}
 use Rattle.cat_types.specs.declared.replies.Reply.TheVariants.{Names}
 use Rattle.catalogue.specs.Databases.{matching}
@@ -65,6 +65,23 @@ MakesNone (ask.Client (GetTableObjectsByName db tables)) = ⊤
 MakesNone (ask.Client (AlterTable db name new)) = ⊤
 MakesNone (ask.Client (GetFields db name)) = ⊤
 MakesNone (ask.Client (GetSchema db name)) = ⊤
+MakesNone (ask.Client (AddPartition part)) = ⊤
+MakesNone (ask.Client (AddPartitions parts)) = ⊤
+MakesNone (ask.Client (AddPartitionsReq db name parts if_not_exists need_result)) = ⊤
+MakesNone (ask.Client (AppendPartition db name values)) = ⊤
+MakesNone (ask.Client (AppendPartitionByName db name called)) = ⊤
+MakesNone (ask.Client (DropPartition db name values)) = ⊤
+MakesNone (ask.Client (DropPartitionByName db name called)) = ⊤
+MakesNone (ask.Client (GetPartition db name values)) = ⊤
+MakesNone (ask.Client (GetPartitionByName db name called)) = ⊤
+MakesNone (ask.Client (GetPartitions db name max)) = ⊤
+MakesNone (ask.Client (GetPartitionNames db name max)) = ⊤
+MakesNone (ask.Client (GetPartitionsPs db name values max)) = ⊤
+MakesNone (ask.Client (GetPartitionNamesPs db name values max)) = ⊤
+MakesNone (ask.Client (GetPartitionsByNames db name named)) = ⊤
+MakesNone (ask.Client (AlterPartition db name part)) = ⊤
+MakesNone (ask.Client (AlterPartitions db name parts)) = ⊤
+MakesNone (ask.Client (RenamePartition db name values part)) = ⊤
 MakesNone (ask.Client (GetNextNotification last max)) = ⊤
 MakesNone (ask.Client GetCurrentNotificationEventId) = ⊤
 MakesNone (ask.Plain reply) = ⊤
@@ -90,6 +107,23 @@ Lists names (ask.Client (GetTableObjectsByName db tables)) reply = ⊤
 Lists names (ask.Client (AlterTable db name new)) reply = ⊤
 Lists names (ask.Client (GetFields db name)) reply = ⊤
 Lists names (ask.Client (GetSchema db name)) reply = ⊤
+Lists names (ask.Client (AddPartition part)) reply = ⊤
+Lists names (ask.Client (AddPartitions parts)) reply = ⊤
+Lists names (ask.Client (AddPartitionsReq db name parts if_not_exists need_result)) reply = ⊤
+Lists names (ask.Client (AppendPartition db name values)) reply = ⊤
+Lists names (ask.Client (AppendPartitionByName db name called)) reply = ⊤
+Lists names (ask.Client (DropPartition db name values)) reply = ⊤
+Lists names (ask.Client (DropPartitionByName db name called)) reply = ⊤
+Lists names (ask.Client (GetPartition db name values)) reply = ⊤
+Lists names (ask.Client (GetPartitionByName db name called)) reply = ⊤
+Lists names (ask.Client (GetPartitions db name max)) reply = ⊤
+Lists names (ask.Client (GetPartitionNames db name max)) reply = ⊤
+Lists names (ask.Client (GetPartitionsPs db name values max)) reply = ⊤
+Lists names (ask.Client (GetPartitionNamesPs db name values max)) reply = ⊤
+Lists names (ask.Client (GetPartitionsByNames db name named)) reply = ⊤
+Lists names (ask.Client (AlterPartition db name part)) reply = ⊤
+Lists names (ask.Client (AlterPartitions db name parts)) reply = ⊤
+Lists names (ask.Client (RenamePartition db name values part)) reply = ⊤
 Lists names (ask.Client (GetNextNotification last max)) reply = ⊤
 Lists names (ask.Client GetCurrentNotificationEventId) reply = ⊤
 Lists names (ask.Plain answer) reply = ⊤

@@ -16,9 +16,9 @@ mod values;
 pub use cat_values::{KEYS_LIMIT, NAME_LIMIT};
 pub use fault::NameFault;
 pub use laws::{names_differ, names_read_back};
-pub use making::make_name;
+pub use making::{join_name, make_name};
 pub use reading::{keys_of, spec_of, vals_of};
-pub use values::valid_value;
+pub use values::{stored_text, valid_value};
 
 /// The value that stands for an empty one.
 pub const DEFAULT_VALUE: &str = "__HIVE_DEFAULT_PARTITION__";

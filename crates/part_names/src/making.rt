@@ -6,7 +6,7 @@ ghost use Rattle.part_names.specs.Making.{IsValidValue, component, grown, part_n
 
 use crate::escapes::{push_escaped, text_of};
 use crate::values::stored_text;
-use cat_values::{NoMemory, Text, Texts};
+use cat_values::{NoMemory, TEXT_LIMIT, Text, Texts};
 use std::alloc::Global;
 
 /// The name of the partition with these values of these keys, in their order. An empty value is
@@ -18,11 +18,31 @@ pub fn make_name(alloc: Global, keys: &Texts, values: &Texts) -> Result<Text, No
     requires valid { All IsValidValue values.now }
     ensures { IfOk result (λ name. name ≡ part_name keys.now values.now) }
 {
+    let name = joined_name(alloc, keys, values)?;
+    Ok(text_of(name))
+}
+
+/// The same name, of keys and values of which nothing is known. A name that is longer than a text may
+/// be is refused as want of memory.
+pub fn join_name(alloc: Global, keys: &Texts, values: &Texts) -> Result<Text, NoMemory>
+    ensures { IfOk result (λ name. name ≡ part_name keys.now values.now) }
+{
+    let name = joined_name(alloc, keys, values)?;
+    if name.len() > TEXT_LIMIT {
+        return Err(NoMemory);
+    }
+    Ok(text_of(name))
+}
+
+// The characters of a name.
+fn joined_name(alloc: Global, keys: &Texts, values: &Texts) -> Result<String, NoMemory>
+    ensures { IfOk result (λ name. string_bytes name ≡ part_name keys.now values.now) }
+{
     let mut name = String::with_capacity(alloc, plain_len(keys, values))?;
     for (key, value) in keys.as_slice().iter().zip(values.as_slice()) {
         push_component(&mut name, key, value)?;
     }
-    Ok(text_of(name))
+    Ok(name)
 }
 
 // Room for a name without escapes.
