@@ -1,0 +1,18 @@
+//! One store that several callers share, each in a thread of its own: a lock round the store, a desk
+//! for each caller, whose steps are turns of the lock, and workers who serve one connection after
+//! the other at such a desk.
+#![tactic(auto)]
+
+mod gate;
+mod held;
+mod post;
+mod room;
+mod serving;
+mod shared_desk;
+
+pub use gate::{FreeGate, Gate};
+pub use held::{Held, Opening};
+pub use post::Post;
+pub use room::Room;
+pub use serving::work;
+pub use shared_desk::SharedDesk;
