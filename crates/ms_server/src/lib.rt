@@ -3,16 +3,20 @@
 //! the other at such a desk.
 #![tactic(auto)]
 
+mod done;
 mod gate;
 mod held;
 mod post;
 mod room;
 mod serving;
 mod shared_desk;
+mod worker;
 
+pub use done::{Crew, Done};
 pub use gate::{FreeGate, Gate};
 pub use held::{Held, Opening};
 pub use post::Post;
 pub use room::Room;
 pub use serving::work;
 pub use shared_desk::SharedDesk;
+pub use worker::{Worker, gather, run_one};

@@ -48,7 +48,10 @@ fn serve_many<D: Desk, L: Listener, F: Folder, K: Clock>(
     ensures visits { Adds D.alone (D.caller desk.old) (D.history desk.old) (D.history desk.new) (VisitsMany limit (around L.inputs L.returned L.faults F.files K.moments post.old) (around L.inputs L.returned L.faults F.files K.moments post.new) result) }
 {
     for _ in 0..limit {
-        serve_one(alloc, desk, post)?;
+        match serve_one(alloc, desk, post) {
+            Ok(()) => {}
+            Err(fault) => return Err(fault),
+        }
     }
     Ok(())
 }

@@ -16,7 +16,7 @@ use turn_lock::{Pass, Standing, Turns};
 
 /// One caller's desk at a store that others share. It has a pass of the lock, and counts its steps.
 #[derive(Drop)]
-pub struct SharedDesk<'a, R: Wait, G: Gate, C: Core, B: Room>
+pub struct SharedDesk<'a, R, G, C: Core, B: Room>
 where
     Held<C>: Standing,
 {
@@ -54,7 +54,7 @@ fn take_turn<R: Wait, C: Core>(
     answer
 }
 
-impl<'a, R: Wait, G: Gate, C: Core, B: Room> SharedDesk<'a, R, G, C, B> {
+impl<'a, R, G, C: Core, B: Room> SharedDesk<'a, R, G, C, B> {
     /// A desk that takes its turns by this pass, which has no turn out and has made no entry.
     pub fn new(
         rt: &'a R,
