@@ -21,13 +21,21 @@ abbrev pub all_calls : List (Past Entry) → ℕ
 all_calls [] = 0
 all_calls (p ∷ ps) = length p.mine + all_calls ps
 
-module _ {L F K : Type 0} (ar : Post L F K → Around) (sessions : Option ℕ) where
-  -- the worker at this place is ready: it has the post of its place and the caller number behind it, and has seen no entry
-  pub record Ready (posts : List (Post L F K)) (place caller : ℕ) (post : Post L F K) (seen : List Entry) : Type 0 where
-    pub caller_is : caller ≡ place + 1
-    pub seen_none : seen ≡ []
-    pub post_is : (d : Post L F K) → post ≡ slice_index_or posts place d
+-- one pass more has joined: of this caller, who had seen this and made so many entries, modulo 2^64
+pub record JoinsAs (old new : List (Past Entry)) (caller : ℕ) (seen : List Entry) (calls : ℕ) : Type 0 where
+  pub past : Past Entry
+  pub is : new ≡ old ++ past ∷ []
+  pub caller_is : past.caller ≡ caller
+  pub seen_is : past.seen ≡ seen
+  pub counted : calls ≡ length past.mine % 2 ^ 64
 
+-- the worker at this place is ready: it has the post of its place and the caller number behind it, and has seen no entry
+pub record Ready {L F K : Type 0} (posts : List (Post L F K)) (place caller : ℕ) (post : Post L F K) (seen : List Entry) : Type 0 where
+  pub caller_is : caller ≡ place + 1
+  pub seen_none : seen ≡ []
+  pub post_is : (d : Post L F K) → post ≡ slice_index_or posts place d
+
+module _ {L F K : Type 0} (ar : Post L F K → Around) (sessions : Option ℕ) where
   -- the worker at this place has run: from the post of its place to the one that it has now, with the caller number behind it
   pub record Ran (posts : List (Post L F K)) (place caller : ℕ) (post : Post L F K) (status : ℕ) (seen : List Entry) : Type 0 where
     pub caller_is : caller ≡ place + 1

@@ -3,6 +3,7 @@
 //! the other at such a desk.
 #![tactic(auto)]
 
+mod crew;
 mod done;
 mod gate;
 mod held;
@@ -12,6 +13,7 @@ mod serving;
 mod shared_desk;
 mod worker;
 
+pub use crew::run_workers;
 pub use done::{Crew, Done};
 pub use gate::{FreeGate, Gate};
 pub use held::{Held, Opening};

@@ -1,11 +1,11 @@
 //! Workers, each with a desk of its own.
 
-ghost use Rattle.std.specs.Prelude.{◌≡◌, ◌≤◌, ◌+◌, ◌++◌, ◌∷◌, ◌%◌, ◌^◌, [], false, length, vec_len, vec_capacity};
+ghost use Rattle.std.specs.Prelude.{◌≡◌, ◌≤◌, ◌+◌, ◌%◌, ◌^◌, [], false, length, vec_len, vec_capacity};
 ghost use Rattle.std.specs.VecDeque.{deque_len};
 ghost use Rattle.desk.specs.Adds.{own};
-ghost use Rattle.ms_server.specs.Crews.{AllJoined, Placed, Ran, all_calls};
+ghost use Rattle.ms_server.specs.Crews.{AllJoined, JoinsAs, Placed, Ran, Ready, all_calls};
 ghost use Rattle.ms_server.specs.Visits.{Worked, around};
-ghost use Rattle.turn_lock.specs.Passes.{calls_of, caller_of, past_of, seen_of, is_out, joined_of, joins_of, splits_of, IsFirst, IsPassOf, IsSamePass};
+ghost use Rattle.turn_lock.specs.Passes.{caller_of, past_of, seen_of, is_out, joined_of, joins_of, splits_of, IsFirst, IsPassOf, IsSamePass};
 
 use crate::{Crew, Done, Gate, Held, Post, Room, SharedDesk, work};
 use desk::Core;
@@ -13,6 +13,7 @@ use hms_listeners::Listener;
 use hms_outside::{Clock, Folder};
 use std::alloc::Global;
 use std::collections::VecDeque;
+use std::snapshot::Snapshot;
 use std::sync::Wait;
 use turn_lock::{Pass, Standing, Turns};
 
@@ -26,8 +27,22 @@ where
     pub status: u8,
 }
 
-/// Serves the worker's connections.
+/// Serves the connections of the worker at this place, which is ready to run from these posts.
 pub fn run_one<R: Wait, G: Gate, C: Core, B: Room, L: Listener, F: Folder, K: Clock>(
+    alloc: Global,
+    sessions: Option<u64>,
+    _place: usize,
+    _posts: &Snapshot<Vec<Post<L, F, K>>>,
+    worker: &mut Worker<'_, R, G, C, B, L, F, K>,
+)
+    requires ready { Ready _posts.now.value.items _place (caller_of worker.old.desk.pass) worker.old.post (seen_of worker.old.desk.pass) }
+    ensures ran { Ran (around L.inputs L.returned L.faults F.files K.moments) sessions _posts.now.value.items _place (caller_of worker.new.desk.pass) worker.new.post worker.new.status (seen_of worker.new.desk.pass) }
+{
+    serve_worker(alloc, sessions, worker);
+}
+
+// Serves the worker's connections.
+fn serve_worker<R: Wait, G: Gate, C: Core, B: Room, L: Listener, F: Folder, K: Clock>(
     alloc: Global,
     sessions: Option<u64>,
     worker: &mut Worker<'_, R, G, C, B, L, F, K>,
@@ -39,10 +54,12 @@ pub fn run_one<R: Wait, G: Gate, C: Core, B: Room, L: Listener, F: Folder, K: Cl
     worker.status = work(alloc, sessions, &mut worker.desk, &mut worker.post);
 }
 
-/// Ends the workers: their passes join the first one.
+/// Ends the workers, which have run from these posts: their passes join the first one.
 pub fn gather<R, G, C: Core, B: Room, L: Listener, F: Folder, K: Clock>(
     turns: &Turns<Held<C>>,
     first: &mut Pass<Held<C>>,
+    _sessions: Option<u64>,
+    _posts: &Snapshot<Vec<Post<L, F, K>>>,
     mut workers: VecDeque<Worker<'_, R, G, C, B, L, F, K>>,
     crew: &mut Crew<L, F, K>,
 )
@@ -50,9 +67,15 @@ pub fn gather<R, G, C: Core, B: Room, L: Listener, F: Folder, K: Clock>(
     requires here { IsPassOf turns.now first.old × IsFirst first.old }
     requires inside { is_out first.old ≡ false }
     requires room { vec_len crew.old.done + deque_len workers ≤ vec_capacity crew.old.done }
+    requires none { (crew.old.done.items ≡ []) × (crew.old.steps ≡ 0) × (joined_of first.old ≡ []) }
+    requires len { deque_len workers ≡ length _posts.now.value.items }
+    requires ran { Placed (λ k w. Ran (around L.inputs L.returned L.faults F.files K.moments) _sessions _posts.now.value.items k (caller_of w.desk.pass) w.post w.status (seen_of w.desk.pass)) workers.items }
     ensures same { IsSamePass first.old first.new }
+    ensures past { past_of first.new ≡ past_of first.old }
     ensures inside { is_out first.new ≡ false }
     ensures counts { (splits_of first.new ≡ splits_of first.old) × (joins_of first.new ≡ joins_of first.old + deque_len workers.entry) }
+    ensures joined { AllJoined (around L.inputs L.returned L.faults F.files K.moments) _sessions 1 _posts.now.value.items (joined_of first.new) crew.new.done.items }
+    ensures steps { crew.new.steps ≡ all_calls (joined_of first.new) % 2 ^ 64 }
 {
     while let Some(worker) = workers.pop_front() {
         let (done, calls) = end(turns, first, worker);
@@ -72,11 +95,12 @@ fn end<R, G, C: Core, B: Room, L, F, K>(
     requires here { IsPassOf turns.now first.old × IsFirst first.old }
     requires inside { is_out first.old ≡ false }
     ensures same { IsSamePass first.old first.new }
+    ensures past { past_of first.new ≡ past_of first.old }
     ensures inside { is_out first.new ≡ false }
     ensures counts { (splits_of first.new ≡ splits_of first.old) × (joins_of first.new ≡ joins_of first.old + 1) }
-    ensures joined { joined_of first.new ≡ joined_of first.old ++ past_of worker.entry.desk.pass ∷ [] }
+    ensures joined { JoinsAs (joined_of first.old) (joined_of first.new) (caller_of worker.entry.desk.pass) (seen_of worker.entry.desk.pass) result.1 }
     ensures caller { result.0.caller ≡ caller_of worker.entry.desk.pass }
-    ensures calls { (result.0.calls ≡ length (calls_of worker.entry.desk.pass) % 2 ^ 64) × (result.1 ≡ result.0.calls) }
+    ensures calls { result.0.calls ≡ result.1 }
     ensures status { result.0.status ≡ worker.entry.status }
     ensures post { result.0.post ≡ worker.entry.post }
 {
