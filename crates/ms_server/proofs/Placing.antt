@@ -61,3 +61,7 @@ pub placed_behind : {X : Type 0} (n : ℕ) (P : ℕ → X → Type 0) (xs ys : L
 placed_behind {X} n P xs ys x all is = λ k d lt.
     let behind : suc k < length (x ∷ ys) = omega (arith, lt) in
     subst (λ (m : ℕ). P m (slice_index_or ys k d)) (omega arith) (subst (PlacedFrom n P) is all (suc k) d behind)
+
+-- the same where the element was pushed
+pub placed_pushed : {X : Type 0} (P : ℕ → X → Type 0) (xs ys : List X) (x : X) → ys ≡ xs ++ x ∷ [] → Placed P xs → P (length xs) x → Placed P ys
+placed_pushed {X} P xs ys x is all one = placed_more P xs ys x all one is

@@ -1,6 +1,6 @@
 //! One store, shared by workers in threads of their own.
 
-ghost use Rattle.std.specs.Prelude.{◌≡◌, ◌≤◌, ◌<◌, ◌+◌, ◌%◌, ◌^◌, ◌⊎◌, [], ℕ, IfOk, IfErr, MatchResult, false, length, vec_len, vec_capacity};
+ghost use Rattle.std.specs.Prelude.{◌≡◌, ◌≤◌, ◌<◌, ◌+◌, ◌%◌, ◌^◌, ◌⊎◌, [], ℕ, IfOk, IfErr, IfSome, MatchResult, false, length, vec_len, vec_capacity};
 ghost use Rattle.desk.specs.Adds.{own};
 ghost use Rattle.std.specs.VecDeque.{deque_len};
 ghost use Rattle.desk.specs.History.{Legal};
@@ -8,7 +8,7 @@ ghost use Rattle.ms_server.specs.Crews.{AllDid, AllJoined, Placed, Ran, Ready, a
 ghost use Rattle.ms_server.specs.Visits.{around};
 ghost use Rattle.turn_lock.specs.Passes.{caller_of, seen_of, is_out, joined_of, joins_of, past_of, splits_of, IsFirst, IsPassOf, IsSamePass};
 
-use crate::{Crew, Gate, Held, Post, Room, SharedDesk, Worker, gather, run_one};
+use crate::{Crew, Done, Gate, Held, Post, Room, SharedDesk, Worker, gather, run_one};
 use desk::Core;
 use hms_listeners::Listener;
 use hms_outside::{Clock, Folder};
@@ -27,6 +27,7 @@ fn line_up<'a, R, G, C: Core, B: Room, L: Listener, F: Folder, K: Clock>(
     turns: &'a Turns<Held<C>>,
     gate: &'a G,
     first: &mut Pass<Held<C>>,
+    _posts: &Snapshot<Vec<Post<L, F, K>>>,
     mut posts: VecDeque<Post<L, F, K>>,
     workers: &mut Vec<Worker<'a, R, G, C, B, L, F, K>>,
 )
@@ -36,13 +37,14 @@ fn line_up<'a, R, G, C: Core, B: Room, L: Listener, F: Folder, K: Clock>(
     requires fresh { (seen_of first.old ≡ []) × (splits_of first.old ≡ 0) × (joins_of first.old ≡ 0) × (joined_of first.old ≡ []) }
     requires room { deque_len posts ≤ vec_capacity workers.old }
     requires none_yet { workers.old.items ≡ [] }
+    requires these { posts.items ≡ _posts.now.value.items }
     requires few { deque_len posts < 4294967294 }
     ensures same { IsSamePass first.old first.new }
     ensures inside { is_out first.new ≡ false }
     ensures past { past_of first.new ≡ past_of first.old }
     ensures counts { (splits_of first.new ≡ deque_len posts) × (joins_of first.new ≡ 0) × (joined_of first.new ≡ []) }
     ensures len { vec_len workers.new ≡ deque_len posts }
-    ensures ready { Placed (λ k w. Ready posts.items k (caller_of w.desk.pass) w.post (seen_of w.desk.pass)) workers.new.items }
+    ensures ready { Placed (λ k w. Ready _posts.now.value.items k (caller_of w.desk.pass) w.post (seen_of w.desk.pass)) workers.new.items }
 {
     let mut place = 0u32;
     while let Some(post) = posts.pop_front() {
@@ -55,6 +57,56 @@ fn line_up<'a, R, G, C: Core, B: Room, L: Listener, F: Folder, K: Clock>(
         place += 1;
     }
     posts.destroy_empty();
+}
+
+// Room for so many workers and for what they give back.
+fn with_room<'a, R, G, C: Core, B: Room, L, F, K>(
+    alloc: Global,
+    count: usize,
+) -> Option<(Vec<Worker<'a, R, G, C, B, L, F, K>>, Vec<Done<L, F, K>>)>
+    ensures workers { IfSome result (λ r. (r.0.items ≡ []) × (count ≤ vec_capacity r.0)) }
+    ensures done { IfSome result (λ r. (r.1.items ≡ []) × (count ≤ vec_capacity r.1)) }
+{
+    let mut workers = Vec::new(alloc);
+    let mut done = Vec::new(alloc);
+    if workers.reserve(count).is_err() || done.reserve(count).is_err() {
+        workers.destroy_empty();
+        done.destroy_empty();
+        return None;
+    }
+    Some((workers, done))
+}
+
+// Runs the workers, each in a thread of its own.
+fn run_all<
+    R: Threads + Wait + Sync,
+    G: Gate + Sync,
+    C: Core + Send,
+    B: Room + Send + Sync,
+    L: Listener + Send,
+    F: Folder + Send,
+    K: Clock + Send,
+>(
+    rt: &R,
+    alloc: Global,
+    sessions: Option<u64>,
+    posts: &Snapshot<Vec<Post<L, F, K>>>,
+    workers: &mut Vec<Worker<'_, R, G, C, B, L, F, K>>,
+)
+where
+    L::Rx: Send,
+    L::Tx: Send,
+    requires some { 0 < vec_len workers.old }
+    requires ready { Placed (λ k w. Ready posts.now.value.items k (caller_of w.desk.pass) w.post (seen_of w.desk.pass)) workers.old.items }
+    ensures len { vec_len workers.new ≡ vec_len workers.old }
+    ensures ran { Placed (λ k w. Ran (around L.inputs L.returned L.faults F.files K.moments) sessions posts.now.value.items k (caller_of w.desk.pass) w.post w.status (seen_of w.desk.pass)) workers.new.items }
+{
+    let count = workers.len();
+    let each = |place: usize, worker: &mut Worker<'_, R, G, C, B, L, F, K>|
+        requires { Ready posts.now.value.items place (caller_of worker.now.desk.pass) worker.now.post (seen_of worker.now.desk.pass) }
+        ensures { Ran (around L.inputs L.returned L.faults F.files K.moments) sessions posts.entry.now.value.items place (caller_of worker.exit.now.desk.pass) worker.exit.now.post worker.exit.now.status (seen_of worker.exit.now.desk.pass) }
+    { run_one(alloc, sessions, place, posts, worker) };
+    thread::for_each_mut(rt, workers.as_mut_slice(), count, &each);
 }
 
 // Runs a worker for each post, each in a thread of its own, where there is memory for the workers.
@@ -93,21 +145,20 @@ where
     ensures steps { IfOk result (λ crew. crew.steps ≡ all_calls (joined_of first.new) % 2 ^ 64) }
     ensures err { IfErr result (λ left. left ≡ posts) }
 {
-    let count = posts.len();
-    let mut workers: Vec<Worker<'_, R, G, C, B, L, F, K>> = Vec::new(alloc);
-    let mut done = Vec::new(alloc);
-    if workers.reserve(count).is_err() || done.reserve(count).is_err() {
-        workers.destroy_empty();
-        done.destroy_empty();
+    let Some((mut workers, done)) = with_room::<R, G, C, B, L, F, K>(alloc, posts.len()) else {
         return Err(posts);
-    }
+    };
     let all = Snapshot::of(&posts);
-    line_up(rt, turns, gate, first, VecDeque::from(posts), &mut workers);
-    let each = |place: usize, worker: &mut Worker<'_, R, G, C, B, L, F, K>|
-        requires { Ready all.value.items place (caller_of worker.now.desk.pass) worker.now.post (seen_of worker.now.desk.pass) }
-        ensures { Ran (around L.inputs L.returned L.faults F.files K.moments) sessions all.value.items place (caller_of worker.exit.now.desk.pass) worker.exit.now.post worker.exit.now.status (seen_of worker.exit.now.desk.pass) }
-    { run_one(alloc, sessions, place, &all, worker) };
-    thread::for_each_mut(rt, workers.as_mut_slice(), count, &each);
+    line_up(
+        rt,
+        turns,
+        gate,
+        first,
+        &all,
+        VecDeque::from(posts),
+        &mut workers,
+    );
+    run_all(rt, alloc, sessions, &all, &mut workers);
     let mut crew = Crew { done, steps: 0 };
     gather(
         turns,

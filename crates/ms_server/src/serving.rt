@@ -25,13 +25,7 @@ pub fn work<D: Desk, L: Listener, F: Folder, K: Clock>(
     ensures worked { Adds D.alone (D.caller desk.old) (D.history desk.old) (D.history desk.new) (Worked sessions (around L.inputs L.returned L.faults F.files K.moments post.old) (around L.inputs L.returned L.faults F.files K.moments post.new) result) }
 {
     match serve_many(alloc, sessions.unwrap_or(u64::MAX), desk, post) {
-        Ok(()) => {
-            if sessions.is_some() {
-                0
-            } else {
-                10
-            }
-        }
+        Ok(()) => { if sessions.is_some() { 0 } else { 10 } }
         Err(Outage::Failed) => 12,
         Err(Outage::NoMemory) => 10,
     }
