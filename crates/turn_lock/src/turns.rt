@@ -2,6 +2,7 @@
 
 ghost use Rattle.std.specs.Prelude.{◌≡◌, ◌≢◌, ◌≤◌, ◌<◌, ◌+◌, ◌++◌, ◌∷◌, [], All, AllPairs, true, false, ℕ, IfOk, IfErr, Some, None};
 
+use crate::bells::Bells;
 use crate::pass::Pass;
 use crate::rule::{Both, Count, Draw, Halves, Law, Look, Publish, Settle};
 use crate::standing::Standing;
@@ -11,7 +12,6 @@ use atomic_table::{Refused, Seat, Table};
 use std::alloc::{AllocFailed, Global};
 use std::snapshot::Snapshot;
 use std::sync::Wait;
-use std::thread;
 
 // The word that counts the turn numbers drawn, the word that counts those served, and the value's slot.
 const DRAWN: usize = 0;
@@ -24,6 +24,7 @@ const VALUE: usize = 0;
 /// which gives the value back. Turns come in the order in which their numbers were drawn.
 pub struct Turns<V: Standing> {
     pub(crate) table: Table<Option<V>, View<V::Entry, V::Start>, Snapshot<V>, Law<V>, Global>,
+    bells: Bells,
     ghost words: { table.shared.table_id.words ≡ 2 },
     ghost slots: { table.shared.table_id.slots ≡ 1 },
 }
@@ -44,6 +45,9 @@ impl<V: Standing> Turns<V> {
         ensures newcomer { IfOk result (λ r. IsNewcomer 0 [] r.1) }
         ensures err { IfErr result (λ v. v ≡ value) }
     {
+        let Ok(bells) = Bells::hang(alloc) else {
+            return Err(value);
+        };
         let about = Snapshot::of(&value);
         let mut slots = Vec::new(alloc);
         if let Err(failed) = slots.push(Some(value)) {
@@ -53,7 +57,7 @@ impl<V: Standing> Turns<V> {
         }
         match Table::new(alloc, &[0, 0], slots, &about) {
             Ok((table, seat)) => Ok((
-                Turns { table },
+                Turns { table, bells },
                 Pass {
                     seat,
                     caller: 0,
@@ -98,11 +102,13 @@ impl<V: Standing> Turns<V> {
     {
         let table = &self.table.shared;
         let ticket = table.fetch_add::<Draw>(seat, DRAWN, 1);
+        let mut looks = 0;
         for _ in rt.forever() {
+            let heard = self.bells.heard(ticket);
             if table.load::<Look<V>>(seat, SERVED) == ticket {
                 return table.exchange(seat, VALUE, None).unwrap();
             }
-            thread::yield_now();
+            looks = self.bells.wait(rt, ticket, heard, looks);
         }
         unreachable!()
     }
@@ -125,7 +131,8 @@ impl<V: Standing> Turns<V> {
         let nothing = table.exchange(&mut pass.seat, VALUE, Some(value));
         let None = nothing else { unreachable!() };
         table.load::<Settle<V>>(&mut pass.seat, SERVED);
-        table.fetch_add::<Publish>(&mut pass.seat, SERVED, 1);
+        let served = table.fetch_add::<Publish>(&mut pass.seat, SERVED, 1);
+        self.bells.ring(served.wrapping_add(1));
     }
 
     /// A new pass with a caller number of its own, which has seen what the first pass has seen.
@@ -187,7 +194,7 @@ impl<V: Standing> Turns<V> {
         ensures known { All (λ (p : Past V.Entry). p.caller ≤ splits_of pass) (past_of pass ∷ joined_of pass) }
         ensures nobody { (caller : ℕ) → splits_of pass < caller → own V.caller_of caller (V.history result) ≡ [] }
     {
-        let Turns { table } = self;
+        let Turns { table, bells: _ } = self;
         let Pass {
             seat,
             caller: _,

@@ -25,8 +25,8 @@ load-requires g c =
           (e.2 ∙ ap (λ v. v.past.seen ++ e.0 ∷ []) (sym view), ap Some c.requires.start ∙ given_is pass.seat.me.0.start pass.started ∙ ap (λ v. v.start) (sym view)),
     )
 
-pub fetch_add-requires : goal.fetch_add-requires
-fetch_add-requires g c =
+pub fetch_add-served-requires : goal.fetch_add-served-requires
+fetch_add-served-requires g c =
     let t = c.load.ensures.2 in (
       c.load.ensures.0 ∙ c.exchange-nothing.ensures.0 ∙ c.requires.here,
       omega (arith, c.args.self.now.words),
@@ -36,8 +36,8 @@ fetch_add-requires g c =
 pub invariant_of-pass : goal.invariant_of-pass
 invariant_of-pass g c =
     let pass = c.args.pass.now in
-    let t = left g.V.Standing.caller_of (HasHistory g.V.Standing.history g.V.Standing.start) (step 0 0 0 0 none) (step 0 0 0 0 none) pass.seat.me c.exchange-nothing.new.seat.me c.load.new.seat.me c.fetch_add.new.seat.me
-    c.load.result c.fetch_add.result c.args.turn.value c.exchange-nothing.ensures.3 c.load.ensures.2 c.fetch_add.ensures.2 in
+    let t = left g.V.Standing.caller_of (HasHistory g.V.Standing.history g.V.Standing.start) (step 0 0 0 0 none) (step 0 0 0 0 none) pass.seat.me c.exchange-nothing.new.seat.me c.load.new.seat.me c.fetch_add-served.new.seat.me
+    c.load.result c.fetch_add-served.result c.args.turn.value c.exchange-nothing.ensures.3 c.load.ensures.2 c.fetch_add-served.ensures.2 in
     record {
       at_rest = ap (λ m. rests m.0.stage) t.3;
       carries = ap (λ m. m.1) t.3 ∙ ap (λ m. carried m.0.stage) (sym t.3);
@@ -50,14 +50,14 @@ invariant_of-pass g c =
 pub returns : goal.returns
 returns g c =
     let pass = c.args.pass.now in
-    let t = left g.V.Standing.caller_of (HasHistory g.V.Standing.history g.V.Standing.start) (step 0 0 0 0 none) (step 0 0 0 0 none) pass.seat.me c.exchange-nothing.new.seat.me c.load.new.seat.me c.fetch_add.new.seat.me
-    c.load.result c.fetch_add.result c.args.turn.value c.exchange-nothing.ensures.3 c.load.ensures.2 c.fetch_add.ensures.2 in
+    let t = left g.V.Standing.caller_of (HasHistory g.V.Standing.history g.V.Standing.start) (step 0 0 0 0 none) (step 0 0 0 0 none) pass.seat.me c.exchange-nothing.new.seat.me c.load.new.seat.me c.fetch_add-served.new.seat.me
+    c.load.result c.fetch_add-served.result c.args.turn.value c.exchange-nothing.ensures.3 c.load.ensures.2 c.fetch_add-served.ensures.2 in
     record {
       same = record {
-        lock = c.fetch_add.ensures.0 ∙ c.load.ensures.0 ∙ c.exchange-nothing.ensures.0;
-        first = c.fetch_add.ensures.1 ∙ c.load.ensures.1 ∙ c.exchange-nothing.ensures.1;
+        lock = c.fetch_add-served.ensures.0 ∙ c.load.ensures.0 ∙ c.exchange-nothing.ensures.0;
+        first = c.fetch_add-served.ensures.1 ∙ c.load.ensures.1 ∙ c.exchange-nothing.ensures.1;
         caller = refl;
-        start = given_same c.fetch_add.new.seat.me.0.start pass.seat.me.0.start _ pass.started (ap (λ m. m.0.start) t.3);
+        start = given_same c.fetch_add-served.new.seat.me.0.start pass.seat.me.0.start _ pass.started (ap (λ m. m.0.start) t.3);
       };
       joins = record { splits = refl; joins = refl; joined = ap (λ m. m.0.joined) t.3 };
       inside = ap (λ m. turn_out m.0.stage) t.3;

@@ -1,0 +1,5 @@
+pub mod Turns
+pub mod Chains
+pub mod Placing
+pub mod Counts
+pub mod Joining
