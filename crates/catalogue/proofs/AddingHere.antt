@@ -1,5 +1,5 @@
 -- What is decided of a call that adds partitions, by what is decided in a table that was found.
-use Rattle.std.proofs.Common.{◌≡◌, ℕ, Bool, true, false, not, List, [], ◌∷◌, Option, Some, None, is_some, if◌then◌else◌, refl, sym, ap, subst, ◌∙◌}
+use Rattle.std.proofs.Common.{◌≡◌, ℕ, Bool, true, false, not, List, [], ◌∷◌, Option, Some, is_some, sym, ap, subst, ◌∙◌}
 use Rattle.std.specs.Prelude.{slice_get}
 use Rattle.cat_types.specs.declared.arguments.PartArg.{PartArg}
 use Rattle.cat_types.specs.declared.changes.Change.{Change}
@@ -12,7 +12,7 @@ use Rattle.cat_objects.specs.declared.held.HeldDb.{HeldDb}
 use Rattle.cat_objects.specs.declared.held.HeldTable.{HeldTable}
 use Rattle.catalogue.specs.Databases.{Rule, born_of, is_replica}
 use Rattle.catalogue.specs.Decisions.{Decides, decided_by}
-use Rattle.catalogue.specs.PartChanges.{add_list_rules, add_partitions_rules, added, added_as, append_partition_rules, appended, appended_as, count_added, each_added_rules, if_any, in_table, list_change, list_told, new_part_rules, ops_under, partition_appended, partitions_added, parts_put}
+use Rattle.catalogue.specs.PartChanges.{add_list_rules, add_partitions_rules, added, added_as, append_partition_rules, appended, appended_as, count_added, each_added_rules, if_any, list_change, list_told, new_part_rules, ops_under, partition_appended, partitions_added, parts_put}
 use Rattle.catalogue.specs.Partitions.{Meaning, may_mean, meant_values, table_keys}
 use Rattle.catalogue.specs.Rules.{first_broken}
 use Rattle.catalogue.specs.Tables.{table_born}

@@ -1,6 +1,5 @@
 -- A change that is decided can be taken.
-use Rattle.std.proofs.Common.{◌≡◌, ◌==◌, ℕ, Bool, true, false, not, ◌&&◌, List, [], ◌∷◌, Option, Some, None, is_some, codes, length, if◌then◌else◌, nat_lt, nat_le, refl, ap, subst, ◌∙◌, eq-eqb}
-use Rattle.std.specs.Str.{bytes_eq}
+use Rattle.std.proofs.Common.{◌≡◌, ◌==◌, ℕ, Bool, true, false, not, List, [], ◌∷◌, Option, Some, None, is_some, if◌then◌else◌, nat_le, refl, ap, ◌∙◌, eq-eqb}
 use Rattle.cat_types.specs.declared.arguments.DbArg.{DbArg}
 use Rattle.cat_types.specs.declared.arguments.PartArg.{PartArg}
 use Rattle.cat_types.specs.declared.arguments.TableArg.{TableArg}
@@ -15,11 +14,11 @@ use Rattle.cat_types.specs.declared.replies.Reply.TheVariants.{Nothing}
 use Rattle.cat_values.specs.Names.{is_object_name, lower}
 use Rattle.cat_objects.specs.Catalogue.{Catalogue, database, has_database, table}
 use Rattle.cat_objects.specs.Changes.{are_some, has_operation, takes_call}
-use Rattle.catalogue.specs.Databases.{Rule, alter_database_rules, born_of, create_database_rules, database_altered, database_created, database_dropped, drop_database_rules, is_named, kept_name, kept_record}
+use Rattle.catalogue.specs.Databases.{Rule, alter_database_rules, born_of, create_database_rules, database_altered, database_created, database_dropped, drop_database_rules, kept_name, kept_record}
 use Rattle.catalogue.specs.Decisions.{Decides, IfChange, decided_by, told}
 use Rattle.catalogue.specs.PartChanges.{add_list_rules, all_altered, alter_partition_rules, alter_partitions_rules, append_partition_rules, appended, drop_partition_rules, if_any, list_added, list_change, ops_under, part_change, partition_appended, partition_dropped, partition_renamed, rename_partition_rules}
 use Rattle.catalogue.specs.Partitions.{Meaning, by_name, by_values, meant_values}
-use Rattle.catalogue.specs.Rules.{breaks, decision, first_broken, first_refusal, lacks_number, result_of}
+use Rattle.catalogue.specs.Rules.{breaks, decision, first_broken, first_refusal, lacks_number}
 use Rattle.catalogue.specs.Tables.{alter_table_rules, create_table_rules, drop_table_rules, renames, table_altered, table_born, table_created, table_dropped, table_put}
 use Rattle.catalogue.specs.declared.bars.Bars.{Bars}
 use Rattle.catalogue.specs.declared.decided.Decided.{Decided}

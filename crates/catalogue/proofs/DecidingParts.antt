@@ -5,8 +5,6 @@ use Rattle.std.specs.Cmp.Lexicographic.{pointwise, pointwise_decides}
 use Rattle.std.specs.List.{list_all}
 use Rattle.std.specs.Str.{bytes_eq}
 use Rattle.cat_types.specs.declared.arguments.PartArg.{PartArg}
-use Rattle.cat_types.specs.declared.changes.Change.{Change}
-use Rattle.cat_types.specs.declared.changes.EventKind.{EventKind}
 use Rattle.cat_types.specs.declared.changes.EventKind.TheVariants as kind
 use Rattle.cat_types.specs.declared.changes.Op.{Op}
 use Rattle.cat_types.specs.declared.changes.Op.TheVariants.{DropPart, MovePart, PutPart}
@@ -15,16 +13,15 @@ use Rattle.cat_objects.specs.Catalogue.{Catalogue, database, has_database, has_p
 use Rattle.cat_objects.specs.Changes.{can_hold, fits_op, has_operation, is_table_born, takes_call}
 use Rattle.cat_objects.specs.Parts.{PartList, at_values}
 use Rattle.cat_objects.specs.declared.held.HeldTable.{HeldTable}
-use Rattle.catalogue.specs.Databases.{Rule, born_of, kept_name}
-use Rattle.catalogue.specs.PartChanges.{add_list_rules, added, all_altered, alter_partition_rules, alter_partitions_rules, altered_at, append_partition_rules, appended, behind, drop_partition_rules, each_added_rules, each_altered_rules, in_table, is_taken, list_added, may_have, one_added, ops_under, part_change, partition_dropped, partition_renamed, rename_partition_rules, renaming, revalues}
+use Rattle.catalogue.specs.Databases.{born_of, kept_name}
+use Rattle.catalogue.specs.PartChanges.{add_list_rules, added, all_altered, alter_partition_rules, alter_partitions_rules, altered_at, append_partition_rules, appended, behind, drop_partition_rules, each_added_rules, each_altered_rules, is_taken, list_added, may_have, ops_under, part_change, partition_dropped, partition_renamed, rename_partition_rules, renaming, revalues}
 use Rattle.catalogue.specs.Partitions.{Meaning, holds_meant, may_mean, meant_values, stored_values}
 use Rattle.catalogue.specs.Rules.{first_broken}
-use Rattle.catalogue.specs.Tables.{names_database, names_table, table_born}
+use Rattle.catalogue.specs.Tables.{names_table, table_born}
 use Rattle.catalogue.specs.declared.bars.Bars.{Bars}
-use Rattle.catalogue.specs.declared.refusal.Refusal.TheVariants.{InvalidObject, InvalidOperation, NoSuchObject}
-use Rattle.kept_records.specs.Partitions.{altered_part, appended_part, made_part}
+use Rattle.kept_records.specs.Partitions.{altered_part, made_part}
 use Rattle.catalogue.proofs.Holding.{puts_taken}
-use Rattle.catalogue.proofs.Rules.{Unbroken, both, both_first, both_last, call_taken, fits_there, holds, unbroken}
+use Rattle.catalogue.proofs.Rules.{Unbroken, both, both_last, call_taken, fits_there, holds, unbroken}
 
 -- the table can have each of these partitions
 abbrev all_fit : Option HeldTable → PartList → Bool

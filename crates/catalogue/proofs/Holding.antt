@@ -1,15 +1,14 @@
 -- Partitions that are put under one table can be put one after the other.
-use Rattle.std.proofs.Common.{◌≡◌, ◌==◌, ℕ, Bool, true, false, not, ◌&&◌, ◌||◌, List, [], ◌∷◌, ◌++◌, Option, Some, None, is_some, cond, if◌then◌else◌, nat_le, refl, sym, ap, subst, ◌∙◌, eq-eqb}
+use Rattle.std.proofs.Common.{◌≡◌, ℕ, Bool, true, false, not, ◌||◌, List, [], ◌∷◌, Option, Some, None, is_some, cond, nat_le, refl, sym, ap, ◌∙◌}
 use Rattle.std.proofs.lemmas.Map.Text.{is_eq-slice_cmp}
 use Rattle.std.proofs.lemmas.Slice.Eq.{bytes_eq-Decides}
 use Rattle.std.specs.List.{list_all}
 use Rattle.std.specs.Map.{lookup, set_value}
 use Rattle.cat_types.specs.declared.changes.Change.{Change}
 use Rattle.cat_types.specs.declared.changes.EventKind.{EventKind}
-use Rattle.cat_types.specs.declared.changes.Op.{Op}
 use Rattle.cat_types.specs.declared.changes.Op.TheVariants.{PutPart}
 use Rattle.cat_values.specs.declared.records.PartRec.{PartRec}
-use Rattle.cat_objects.specs.Catalogue.{Catalogue, at_name, database, has_database, is_name, table, tables_of}
+use Rattle.cat_objects.specs.Catalogue.{Catalogue, at_name, database, is_name, table, tables_of}
 use Rattle.cat_objects.specs.Changes.{are_puts, are_some, can_hold, changed_in, changed_parts, changed_value, done_op, fits_database, fits_kind, fits_op, fits_ops, has_operation, is_any, is_born, is_one, puts_under, takes_call, takes_change, with_parts, with_tables}
 use Rattle.cat_objects.specs.Parts.{PartList, put_part}
 use Rattle.cat_objects.specs.declared.held.HeldDb.{HeldDb}

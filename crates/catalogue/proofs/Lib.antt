@@ -1,6 +1,5 @@
 pub mod Rules
 pub mod Asking
-pub mod Storing
 pub mod Listing
 pub mod Adding
 pub mod Numbering

@@ -1,5 +1,5 @@
 -- A call that its own rules decide is decided once a number for its event is looked for.
-use Rattle.std.proofs.Common.{◌≡◌, ℕ, Option, Some, None, refl, sym, ap, subst, ◌∙◌}
+use Rattle.std.proofs.Common.{◌≡◌, ℕ, Option, Some, None, subst}
 use Rattle.cat_types.specs.declared.changes.Change.{Change}
 use Rattle.cat_types.specs.declared.replies.Reply.{Reply}
 use Rattle.catalogue.specs.Decisions.{Decides, decided_by, told}

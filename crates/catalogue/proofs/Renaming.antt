@@ -8,7 +8,7 @@ use Rattle.cat_types.specs.declared.changes.Op.{Op}
 use Rattle.cat_types.specs.declared.changes.Op.TheVariants.{MovePart, PutPart}
 use Rattle.cat_types.specs.declared.replies.Reply.TheVariants.{Nothing}
 use Rattle.cat_values.specs.declared.records.PartRec.{PartRec}
-use Rattle.cat_objects.specs.Catalogue.{Catalogue, at_name, database, has_database, has_table, part, parts_of, table, tables_of}
+use Rattle.cat_objects.specs.Catalogue.{Catalogue, at_name, database, has_database, has_table, parts_of, table, tables_of}
 use Rattle.cat_objects.specs.Parts.{at_values}
 use Rattle.cat_objects.specs.declared.held.HeldDb.{HeldDb}
 use Rattle.cat_objects.specs.declared.held.HeldTable.{HeldTable}

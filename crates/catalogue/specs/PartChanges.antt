@@ -1,7 +1,7 @@
 -- The calls that add, drop, alter and rename partitions: their rules, what they change, and what they result in.
 use Rattle.std.specs.Prelude.{ℕ, ◌+◌, nat_le, Bool, true, false, not, ◌&&◌, ◌||◌, List, [], ◌∷◌, ◌++◌, length, map, Option, None, Some, is_some, pos, if◌then◌else◌}
 use Rattle.std.specs.Cmp.Lexicographic.{pointwise}
-use Rattle.std.specs.List.{list_all, list_any}
+use Rattle.std.specs.List.{list_any}
 use Rattle.std.specs.Str.{bytes_eq}
 use Rattle.cat_values.specs.Names.{lower}
 use Rattle.cat_values.specs.declared.records.PartRec.{PartRec}
@@ -11,7 +11,6 @@ use Rattle.cat_types.specs.declared.changes.EventKind.{EventKind}
 use Rattle.cat_types.specs.declared.changes.EventKind.TheVariants as kind
 use Rattle.cat_types.specs.declared.changes.Op.{Op}
 use Rattle.cat_types.specs.declared.changes.Op.TheVariants.{DropPart, MovePart, PutPart}
-use Rattle.cat_types.specs.declared.named.NamedPart.{NamedPart}
 use Rattle.cat_types.specs.declared.replies.Reply.{Reply}
 use Rattle.cat_types.specs.declared.replies.Reply.TheVariants.{Nothing, Number, Parts}
 use Rattle.cat_objects.specs.Catalogue.{Catalogue, database, has_database, has_part, has_table, part, parts_of, table}

@@ -1,5 +1,5 @@
 -- Which calls are refused, what the others change, and what they result in.
-use Rattle.std.specs.Prelude.{ℕ, nat_lt, Bool, true, false, ◌&&◌, List, [], ◌∷◌, Option, None, Some, if◌then◌else◌}
+use Rattle.std.specs.Prelude.{ℕ, nat_lt, true, false, ◌&&◌, List, [], ◌∷◌, Option, None, Some, if◌then◌else◌}
 use Rattle.std.specs.Map.{keys_of}
 use Rattle.cat_values.specs.Names.{lower}
 use Rattle.cat_types.specs.declared.calls.Call.{Call}

@@ -1,5 +1,5 @@
 -- The rules of calls on tables, what they change, and what they result in.
-use Rattle.std.specs.Prelude.{ℕ, nat_le, Bool, true, false, not, ◌&&◌, List, [], ◌∷◌, ◌++◌, length, map, Option, None, Some, is_some, if◌then◌else◌}
+use Rattle.std.specs.Prelude.{ℕ, nat_le, Bool, false, not, ◌&&◌, List, [], ◌∷◌, ◌++◌, length, map, Option, None, Some, if◌then◌else◌}
 use Rattle.std.specs.List.{list_any}
 use Rattle.std.specs.Map.{keys_of}
 use Rattle.std.specs.Str.{bytes_eq}
@@ -13,9 +13,9 @@ use Rattle.cat_types.specs.declared.changes.Op.{Op}
 use Rattle.cat_types.specs.declared.changes.Op.TheVariants.{DropTable, MoveTable, PutTable}
 use Rattle.cat_types.specs.declared.named.NamedTable.{NamedTable}
 use Rattle.cat_types.specs.declared.replies.Reply.{Reply}
-use Rattle.cat_types.specs.declared.replies.Reply.TheVariants.{Fields, Names, Nothing, Tables}
+use Rattle.cat_types.specs.declared.replies.Reply.TheVariants.{Fields, Nothing, Tables}
 use Rattle.cat_objects.specs.Catalogue.{Catalogue, database, has_database, has_table, table, tables_of}
-use Rattle.catalogue.specs.Databases.{Rule, born_of, is_named, is_replica, kept_name, matching, names_another}
+use Rattle.catalogue.specs.Databases.{Rule, born_of, is_named, is_replica, kept_name, names_another}
 use Rattle.catalogue.specs.declared.bars.Bars.{Bars}
 use Rattle.cat_objects.specs.declared.held.HeldTable.{HeldTable}
 use Rattle.catalogue.specs.declared.refusal.Refusal.TheVariants.{AlreadyExists, InvalidObject, InvalidOperation, InvalidRequest, IsReplica, NoSuchObject}

@@ -56,7 +56,12 @@ impl NewParts {
     }
 
     // Adds one at the end. After `NoMemory` there are none.
-    pub(crate) fn push(&mut self, alloc: Global, values: Texts, rec: PartRec) -> Result<(), NoMemory>
+    pub(crate) fn push(
+        &mut self,
+        alloc: Global,
+        values: Texts,
+        rec: PartRec,
+    ) -> Result<(), NoMemory>
         ensures { OnOk result (self.new ≡ self.old ++ (values, rec) ∷ []) }
     {
         let key = values.copy(alloc)?;

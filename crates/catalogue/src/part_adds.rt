@@ -50,7 +50,15 @@ pub(crate) fn append_partition(
     let Ok(name) = LowerName::of(alloc, name) else {
         return Decided::NoMemory;
     };
-    append_meant(alloc, cat, bars, db.as_text(), name.as_text(), meant, moment)
+    append_meant(
+        alloc,
+        cat,
+        bars,
+        db.as_text(),
+        name.as_text(),
+        meant,
+        moment,
+    )
 }
 
 // The same; both names are in lower case.
@@ -155,7 +163,16 @@ pub(crate) fn add_partition(
         passes: false,
         told: Told::All,
     };
-    add_list(alloc, cat, bars, &part.db, &part.table, slice::from_ref(part), terms, moment)
+    add_list(
+        alloc,
+        cat,
+        bars,
+        &part.db,
+        &part.table,
+        slice::from_ref(part),
+        terms,
+        moment,
+    )
 }
 
 // Adding partitions by a request.
@@ -205,7 +222,16 @@ pub(crate) fn add_partitions(
     let Some(first) = parts.get(0) else {
         return Decided::Reply(Reply::Number(0));
     };
-    add_list(alloc, cat, bars, &first.db, &first.table, parts.as_slice(), terms, moment)
+    add_list(
+        alloc,
+        cat,
+        bars,
+        &first.db,
+        &first.table,
+        parts.as_slice(),
+        terms,
+        moment,
+    )
 }
 
 impl<'a> Site<'a> {
@@ -229,7 +255,7 @@ impl<'a> Site<'a> {
         if !may_have(self.held, values) {
             return Some(Refusal::InvalidObject);
         }
-        if self.held.parts.get(values).is_some() {
+        if self.held.parts.get(values).is_none() {
             return Some(Refusal::AlreadyExists);
         }
         if self.held.parts.len() as u64 >= PARTITION_LIMIT {
@@ -342,8 +368,10 @@ impl<'a> Site<'a> {
     fn is_elsewhere(&self, alloc: Global, new: &PartArg, needs: bool) -> Result<bool, NoMemory>
         ensures { IfOk result (λ is. is ≡ is_elsewhere needs self.now.db.now self.now.name.now new.now) }
     {
-        Ok(names_other(alloc, needs, &new.db, self.db)?
-            || names_other(alloc, needs, &new.table, self.name)?)
+        Ok(
+            names_other(alloc, needs, &new.db, self.db)?
+                || names_other(alloc, needs, &new.table, self.name)?,
+        )
     }
 
     // Whether a partition with these values is there, or among these.

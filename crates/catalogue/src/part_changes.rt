@@ -17,9 +17,7 @@ use crate::new_parts::NewParts;
 use crate::part_site::{Barred, Site};
 use crate::part_values::may_have;
 use crate::{Bars, Cat, Decided, HeldTable, Refusal};
-use cat_types::{
-    Change, EventKind, LowerName, NoMemory, PartArg, PartArgs, Reply, Text, Texts,
-};
+use cat_types::{Change, EventKind, LowerName, NoMemory, PartArg, PartArgs, Reply, Text, Texts};
 use kept_records::altered_part;
 use std::alloc::Global;
 
@@ -170,7 +168,15 @@ pub(crate) fn alter_partitions(
     let Ok(name) = LowerName::of(alloc, name) else {
         return Decided::NoMemory;
     };
-    alter_list(alloc, cat, bars, db.as_text(), name.as_text(), parts, moment)
+    alter_list(
+        alloc,
+        cat,
+        bars,
+        db.as_text(),
+        name.as_text(),
+        parts,
+        moment,
+    )
 }
 
 // The same; both names are in lower case.
@@ -279,7 +285,16 @@ pub(crate) fn rename_partition(
     let Ok(name) = LowerName::of(alloc, name) else {
         return Decided::NoMemory;
     };
-    rename_part(alloc, cat, bars, db.as_text(), name.as_text(), values, new, moment)
+    rename_part(
+        alloc,
+        cat,
+        bars,
+        db.as_text(),
+        name.as_text(),
+        values,
+        new,
+        moment,
+    )
 }
 
 // The same; both names are in lower case.

@@ -89,13 +89,7 @@ pub(crate) fn push_part(
 }
 
 // The first `max` partitions of a table.
-pub(crate) fn get_partitions(
-    alloc: Global,
-    cat: &Cat,
-    db: &Text,
-    name: &Text,
-    max: i16,
-) -> Decided
+pub(crate) fn get_partitions(alloc: Global, cat: &Cat, db: &Text, name: &Text, max: i16) -> Decided
     ensures { Decides (decided_by (first_broken (list_partitions_rules cat.now (lower db.now) (lower name.now))) None (parts_listed cat.now (lower db.now) (lower name.now) [] max)) result }
 {
     let Ok(db) = LowerName::of(alloc, db) else {
@@ -107,7 +101,14 @@ pub(crate) fn get_partitions(
     let Some(held) = cat.held_table(db.as_text(), name.as_text()) else {
         return refused(alloc, Refusal::NoSuchObject);
     };
-    told_parts(list_parts(alloc, held, db.as_text(), name.as_text(), &ListOf::new(alloc), max))
+    told_parts(list_parts(
+        alloc,
+        held,
+        db.as_text(),
+        name.as_text(),
+        &ListOf::new(alloc),
+        max,
+    ))
 }
 
 // The names of the first `max` partitions of a table.
@@ -230,12 +231,7 @@ fn list_parts(
 }
 
 // The names of the first `max` partitions whose values begin so.
-fn list_names(
-    alloc: Global,
-    held: &HeldTable,
-    wanted: &Texts,
-    max: i16,
-) -> Result<Texts, NoMemory>
+fn list_names(alloc: Global, held: &HeldTable, wanted: &Texts, max: i16) -> Result<Texts, NoMemory>
     ensures { IfOk result (λ names. names ≡ own_names held.now.rec.keys (listed wanted.now max held.now.parts)) }
 {
     let keys = key_names(alloc, &held.rec.keys)?;

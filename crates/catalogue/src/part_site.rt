@@ -61,11 +61,7 @@ impl<'a> Site<'a> {
     }
 
     // The change that drops a partition.
-    pub(crate) fn drops(
-        &self,
-        alloc: Global,
-        values: StoredValues<'_>,
-    ) -> Result<Change, NoMemory>
+    pub(crate) fn drops(&self, alloc: Global, values: StoredValues<'_>) -> Result<Change, NoMemory>
         ensures { IfOk result (λ made. made ≡ record { kind = EventKind.DropPartition; db = self.now.db.now; db_born = self.now.db_born; ops = Op.DropPart self.now.name.now self.now.held.now.born (seen_values values.entry) ∷ [] }) }
     {
         let values = values.into_texts(alloc)?;

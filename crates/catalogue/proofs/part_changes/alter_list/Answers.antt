@@ -1,9 +1,7 @@
-use Rattle.std.proofs.Common.{◌≡◌, [], Some, Err, false, rules, subst}
+use Rattle.std.proofs.Common.{◌≡◌, Some, Err, false, rules, subst}
 use Rattle.cat_objects.specs.Catalogue.{at_name, database}
 use Rattle.catalogue.specs.Databases.{is_replica}
 use Rattle.catalogue.specs.Decisions.{Decides, refused}
-use Rattle.catalogue.specs.PartChanges.{each_altered_rules}
-use Rattle.catalogue.specs.Rules.{first_broken}
 use Rattle.catalogue.specs.declared.part_site.Barred.TheVariants.{Refused}
 use Rattle.catalogue.specs.declared.refusal.Refusal.{Refusal}
 use Rattle.catalogue.proofs.Renaming.{list_barred}

@@ -1,6 +1,5 @@
-use Rattle.std.proofs.Common.{◌≡◌, ◌&&◌, ℕ, List, [], ◌∷◌, Some, is_some, false, true, rules, refl, subst}
+use Rattle.std.proofs.Common.{◌≡◌, ℕ, List, [], ◌∷◌, Some, is_some, false, true, rules, refl, subst}
 use Rattle.std.specs.Prelude.{IfOk}
-use Rattle.cat_types.specs.declared.changes.Change.{Change}
 use Rattle.cat_types.specs.declared.changes.EventKind.TheVariants as kind
 use Rattle.cat_types.specs.declared.changes.Op.TheVariants.{MovePart, PutPart}
 use Rattle.cat_objects.specs.Catalogue.{at_name, database}

@@ -1,4 +1,4 @@
-use Rattle.std.proofs.Common.{◌≡◌, ◌∙◌, sym, rules, true, false}
+use Rattle.std.proofs.Common.{◌≡◌, rules, true, false}
 use Rattle.cat_values.specs.Names.{lower}
 use Rattle.catalogue.proofs.Asking.{asked_text, has_name, passed_text}
 use Rattle.catalogue.proofs.table_reads.ask.Goals as goal
