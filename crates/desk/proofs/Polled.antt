@@ -1,7 +1,7 @@
 -- Polls write nothing; which events are above a number below 0.
 use Rattle.std.proofs.Common.{◌≡◌, refl, sym, ap, ◌∙◌, ℕ, ◌<◌, ℤ, pos, negsuc, ◌<ℤ◌, List, [], ◌∷◌, arith}
 use Rattle.std.proofs.lemmas.Int.{ints}
-use Rattle.cat_types.specs.declared.calls.Call.TheVariants.{AlterDatabase, AlterTable, CreateDatabase, CreateTable, DropDatabase, DropTable, GetAllDatabases, GetAllTables, GetCurrentNotificationEventId, GetDatabase, GetDatabases, GetFields, GetNextNotification, GetSchema, GetTable, GetTableObjectsByName, GetTableReq, GetTables}
+use Rattle.cat_types.specs.declared.calls.Call.TheVariants.{AddPartition, AddPartitions, AddPartitionsReq, AlterDatabase, AlterPartition, AlterPartitions, AlterTable, AppendPartition, AppendPartitionByName, CreateDatabase, CreateTable, DropDatabase, DropPartition, DropPartitionByName, DropTable, GetAllDatabases, GetAllTables, GetCurrentNotificationEventId, GetDatabase, GetDatabases, GetFields, GetNextNotification, GetPartition, GetPartitionByName, GetPartitionNames, GetPartitionNamesPs, GetPartitions, GetPartitionsByNames, GetPartitionsPs, GetSchema, GetTable, GetTableObjectsByName, GetTableReq, GetTables, RenamePartition}
 use Rattle.cat_types.specs.declared.changes.Event.{Event}
 use Rattle.desk.specs.Laws.{PollsWriteNothing}
 use Rattle.desk.specs.Polls.{events_beyond}
@@ -25,6 +25,23 @@ write_nothing s (GetTableObjectsByName db names) moment is = absurd cc
 write_nothing s (AlterTable db name new) moment is = absurd cc
 write_nothing s (GetFields db name) moment is = absurd cc
 write_nothing s (GetSchema db name) moment is = absurd cc
+write_nothing s (AddPartition part) moment is = absurd cc
+write_nothing s (AddPartitions parts) moment is = absurd cc
+write_nothing s (AddPartitionsReq db name parts if_not_exists need_result) moment is = absurd cc
+write_nothing s (AppendPartition db name values) moment is = absurd cc
+write_nothing s (AppendPartitionByName db name called) moment is = absurd cc
+write_nothing s (DropPartition db name values) moment is = absurd cc
+write_nothing s (DropPartitionByName db name called) moment is = absurd cc
+write_nothing s (GetPartition db name values) moment is = absurd cc
+write_nothing s (GetPartitionByName db name called) moment is = absurd cc
+write_nothing s (GetPartitions db name max) moment is = absurd cc
+write_nothing s (GetPartitionNames db name max) moment is = absurd cc
+write_nothing s (GetPartitionsPs db name values max) moment is = absurd cc
+write_nothing s (GetPartitionNamesPs db name values max) moment is = absurd cc
+write_nothing s (GetPartitionsByNames db name names) moment is = absurd cc
+write_nothing s (AlterPartition db name part) moment is = absurd cc
+write_nothing s (AlterPartitions db name parts) moment is = absurd cc
+write_nothing s (RenamePartition db name values part) moment is = absurd cc
 write_nothing s (GetNextNotification last max) moment is = refl
 write_nothing s GetCurrentNotificationEventId moment is = refl
 
