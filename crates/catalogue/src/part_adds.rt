@@ -255,7 +255,7 @@ impl<'a> Site<'a> {
         if !may_have(self.held, values) {
             return Some(Refusal::InvalidObject);
         }
-        if self.held.parts.get(values).is_none() {
+        if self.held.parts.get(values).is_some() {
             return Some(Refusal::AlreadyExists);
         }
         if self.held.parts.len() as u64 >= PARTITION_LIMIT {
