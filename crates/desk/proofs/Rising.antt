@@ -82,11 +82,11 @@ with_other_value test es v rise = subst (λ (ks : List (List ℕ)). IsStrictlySo
 
 changed_keys : {X : Type 0} (test : List ℕ → Bool) (change : X → X) (es : List (List ℕ × X)) → keys_of (changed_value test change es) ≡ keys_of es
 changed_keys test change [] = refl
-changed_keys {X} test change (e ∷ es) = by_test (test e.0)
+changed_keys {X} test change (e ∷ es) = by_test (test e.0) (changed_keys test change es)
   where
-    by_test : (b : Bool) → keys_of (cond b ((e.0, change e.1) ∷ es) (e ∷ changed_value test change es)) ≡ keys_of (e ∷ es)
-    by_test true = refl
-    by_test false = ap (λ (ks : List (List ℕ)). e.0 ∷ ks) (changed_keys test change es)
+    by_test : (b : Bool) → keys_of (changed_value test change es) ≡ keys_of es → keys_of (cond b ((e.0, change e.1) ∷ es) (e ∷ changed_value test change es)) ≡ keys_of (e ∷ es)
+    by_test true later = refl
+    by_test false later = ap (λ (ks : List (List ℕ)). e.0 ∷ ks) later
 
 pub with_changed_value : {X : Type 0} (test : List ℕ → Bool) (change : X → X) (es : List (List ℕ × X)) → AreRising es → AreRising (changed_value test change es)
 with_changed_value test change es rise = subst (λ (ks : List (List ℕ)). IsStrictlySortedBy (slice_cmp nat_cmp) ks) (sym (changed_keys test change es)) rise
