@@ -12,7 +12,7 @@ use Rattle.cat_values.specs.declared.records.PartRec.{PartRec}
 use Rattle.cat_values.specs.declared.records.TableRec.{TableRec}
 use Rattle.cat_objects.specs.declared.held.HeldDb.{HeldDb}
 use Rattle.cat_objects.specs.declared.held.HeldTable.{HeldTable}
-use Rattle.desk.specs.History.{Transition, events_from, point_after, point_of}
+use Rattle.desk.specs.History.{events_from, point_of}
 use Rattle.desk.specs.Laws.{AreRising, EachValuesRise, NamesGoOnRising, NamesRise, NamesOfNewStoresRise, PartValuesGoOnRising, PartValuesOfNewStoresRise, PartValuesRise, TableNamesGoOnRising, TableNamesOfNewStoresRise, TableNamesRise, ValuesRise, catalogue_after}
 use Rattle.desk.specs.State.{start}
 use Rattle.desk.proofs.Events.{always_together}

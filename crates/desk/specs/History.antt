@@ -1,10 +1,10 @@
 -- Histories of a store, and which of them are legal.
-use Rattle.std.specs.Prelude.{◌≡◌, ◌≢◌, ℕ, ◌≤◌, zero, suc, List, [], ◌∷◌, ◌++◌, map, Option, Some, None, option_to_list, IsSome, if◌then◌else◌}
+use Rattle.std.specs.Prelude.{◌≢◌, ℕ, ◌≤◌, zero, suc, List, [], ◌∷◌, ◌++◌, map, Option, Some, None, option_to_list, IsSome, if◌then◌else◌}
 use Rattle.std.specs.List.{AllByRecursion}
 use Rattle.cat_types.specs.declared.changes.Event.{Event}
 use Rattle.cat_types.specs.declared.steps.Answer.TheVariants as answer
 use Rattle.cat_types.specs.declared.steps.Step.{Step}
-use Rattle.desk.specs.State.{State, MayAnswer, due, durable, event_of, is_refused, start, state_after_answer, writes}
+use Rattle.desk.specs.State.{State, MayAnswer, due, durable, event_of, is_refused, state_after_answer, writes}
 use Rattle.desk.specs.declared.entries.CallerStep.{CallerStep}
 use Rattle.desk.specs.declared.entries.Outcome.{Outcome}
 use Rattle.hms_outside.specs.Disks.{Lies}
