@@ -90,6 +90,7 @@ fn answer_all<S: Source, K: Sink, D: Desk, F: Folder, C: Clock>(
             Err(fault) => return end_of(fault),
         };
         if request.is_shutdown() {
+            drop(request);
             return End::Shutdown;
         }
         match answer(alloc, request, &mut writer, sink, desk, folder, clock) {
