@@ -185,7 +185,8 @@ impl<D: Disk> Core for Engine<D> {
         let answer = self.store.take_step(&mut self.journal, caller, &asked.step);
         let turned = Turned { asked, answer };
         self.turns = self.turns.and(&turned, &self.journal);
-        let Turned { asked: _, answer } = turned;
+        let Turned { asked, answer } = turned;
+        drop(asked);
         answer
     }
 }
