@@ -32,10 +32,10 @@ use Rattle.cat_objects.specs.Parts.{PartList, moved_part, put_part, without_part
 use Rattle.cat_values.specs.declared.records.PartRec.{PartRec}
 use Rattle.catalogue.specs.Databases.{Rule, alter_database_rules, database_altered, database_dropped, drop_database_rules, kept_name, matching}
 use Rattle.catalogue.specs.Decisions.{decided_by}
-use Rattle.catalogue.specs.PartChanges.{all_altered, appended, list_added, list_change, part_change, partition_appended, partition_dropped, partition_renamed, partitions_added, parts_altered, parts_put, put_under, renaming, revalues}
+use Rattle.catalogue.specs.PartChanges.{all_altered, appended, list_added, list_change, ops_under, part_change, partition_appended, partition_dropped, partition_renamed, partitions_added, parts_altered, parts_put, renaming, revalues}
 use Rattle.catalogue.specs.Partitions.{by_name, by_values, meant_values}
 use Rattle.catalogue.specs.Rules.{breaks, first_broken, first_refusal, lacks_number, refusal, result_of, rules_of}
-use Rattle.catalogue.specs.Tables.{renames, table_altered, table_created, table_dropped, table_put}
+use Rattle.catalogue.specs.Tables.{renames, table_altered, table_born, table_created, table_dropped, table_put}
 use Rattle.catalogue.specs.declared.bars.Bars.{Bars}
 use Rattle.cat_objects.specs.declared.held.HeldDb.{HeldDb}
 use Rattle.cat_objects.specs.declared.held.HeldTable.{HeldTable}
@@ -261,18 +261,18 @@ on_tables s call moment (Some c) on has = changes_so s call moment c (λ none. t
 
 -- ---- changes of partitions
 
-puts_on : (name : List ℕ) (held : Option HeldTable) (parts : PartList) → AllByRecursion IsOnTables (map (put_under name held) parts)
-puts_on name held [] = tt
-puts_on name held (part ∷ parts) = (tt, puts_on name held parts)
+puts_on : (name : List ℕ) (born : ℕ) (parts : PartList) → AllByRecursion IsOnTables (ops_under name born parts)
+puts_on name born [] = tt
+puts_on name born (part ∷ parts) = (tt, puts_on name born parts)
 
 parts_on : (k : EventKind) (cat : Catalogue) (db name : List ℕ) (parts : PartList) (c : Change) → parts_put k cat db name parts ≡ Some c → AllByRecursion IsOnTables c.ops
 parts_on k cat db name parts c is = by_test (has_operation made) is
   where
     made : Change
-    made = part_change k cat db (map (put_under name (table cat db name)) parts)
+    made = part_change k cat db (ops_under name (table_born (table cat db name)) parts)
 
     by_test : (b : Bool) → cond b (Some made) None ≡ Some c → AllByRecursion IsOnTables c.ops
-    by_test true same = let e : made ≡ c = cc in subst (λ (x : Change). AllByRecursion IsOnTables x.ops) e (puts_on name (table cat db name) parts)
+    by_test true same = let e : made ≡ c = cc in subst (λ (x : Change). AllByRecursion IsOnTables x.ops) e (puts_on name (table_born (table cat db name)) parts)
     by_test false same = absurd cc
 
 added_on : (cat : Catalogue) (parts : List PartArg) (moment : ℕ) (c : Change) → partitions_added cat parts moment ≡ Some c → AllByRecursion IsOnTables c.ops
