@@ -9,11 +9,16 @@ use Rattle.cat_types.specs.declared.steps.Answer.TheVariants as answer
 use Rattle.cat_types.specs.declared.steps.Step.TheVariants.{Client}
 use Rattle.cat_objects.specs.Catalogue.{Catalogue}
 use Rattle.cat_objects.specs.Changes.{are_puts, are_some, has_operation, is_any, is_one, takes_call, takes_change}
-use Rattle.catalogue.specs.Decisions.{Decision, accepted, refused, told}
+use Rattle.catalogue.specs.Decisions.{Decides, Decision, accepted, refused, told}
 use Rattle.catalogue.specs.Polls.{poll_of}
+use Rattle.catalogue.specs.Rules.{decision}
+use Rattle.catalogue.specs.declared.bars.Bars.{Bars}
+use Rattle.catalogue.specs.declared.decided.Decided.{Decided}
 use Rattle.catalogue.specs.declared.decided.Decided.TheVariants as decided
 use Rattle.catalogue.specs.declared.poll.Poll.{Poll}
-use Rattle.desk.specs.State.{State, Written, decision_of, due, kept, next_event, reply_by, reply_in, with_written, written_by, written_change}
+use Rattle.desk.specs.Polls.{poll_reply}
+use Rattle.desk.specs.State.{State, Written, bars_of, decision_of, due, kept, next_event, reply_by, reply_in, with_written, writing, written_by, written_change}
+use Rattle.desk.proofs.Polled.{write_nothing}
 use Rattle.engine.proofs.Commits.{rested}
 use Rattle.engine.proofs.Tests.{all_of, first_of, last_of}
 use Rattle.engine.specs.Inside.{IsSure, IsTaken, Logged, Seen, Spells, Stepped, refused_by}
@@ -69,6 +74,31 @@ stepped_reply s caller call moment reply v none sure is =
       may = due_reply s caller call moment reply none w.1;
       payload = None;
       spells = subst (λ (o : Option Written). Spells false None o) (sym w.0) tt;
+      taken = tt;
+      ran = rested v sure false;
+    }
+
+-- a decision over what is equal
+pub decides_so : (s : State) (cat : Catalogue) (bars : Bars) (newest : ℕ) (call : Call) (moment : ℕ) (d : Decided) → cat ≡ s.catalogue → bars ≡ bars_of s → newest ≡ s.newest → Decides (decision cat bars call moment (newest + 1)) d
+    → Decides (decision_of s call moment) d
+decides_so s cat bars newest call moment d same barred numbered is =
+    subst (λ (n : ℕ). Decides (decision s.catalogue (bars_of s) call moment (n + 1)) d) numbered
+    (subst (λ (b : Bars). Decides (decision s.catalogue b call moment (newest + 1)) d) barred
+    (subst (λ (c : Catalogue). Decides (decision c bars call moment (newest + 1)) d) same is))
+
+nothing : (o : Option Written) → is_some o ≡ false → o ≡ None
+nothing None is = refl
+nothing (Some w) is = absurd cc
+
+-- a poll, which writes nothing
+pub stepped_poll : (s : State) (caller : ℕ) (call : Call) (moment : ℕ) (poll : Poll) (reply : Reply) (v : Seen) → poll_of call ≡ Some poll → IsSure v → reply ≡ poll_reply s.events s.newest poll → Stepped s caller (Client call moment) (answer.Reply reply) s v v
+stepped_poll s caller call moment poll reply v is sure told =
+    let none : writing s (Client call moment) ≡ None = nothing (writing s (Client call moment)) (write_nothing s call moment (ap (λ (o : Option Poll). is_some o) is)) in
+    record {
+      state = ap (λ (o : Option Written). with_written o s) (sym none);
+      may = ap (λ (r : Reply). answer.Reply r) (told ∙ ap (λ (o : Option Poll). reply_in s o (decision_of s call moment)) (sym is));
+      payload = None;
+      spells = subst (λ (o : Option Written). Spells false None o) (sym none) tt;
       taken = tt;
       ran = rested v sure false;
     }

@@ -3,15 +3,17 @@
 ghost use Rattle.std.specs.Prelude.{◌≡◌, ◌<◌, ◌≤◌, ◌+◌, ◌++◌, ◌∷◌, [], true, Ok, IfOk, MatchResult, None, OnErr, OnOk, Some};
 ghost use Rattle.cat_types.specs.declared.steps.Step.TheVariants.{Client};
 ghost use Rattle.cat_objects.specs.Changes.{takes_call, takes_change};
+ghost use Rattle.catalogue.specs.Decisions.{Decides, IfChange};
 ghost use Rattle.catalogue.specs.Polls.{poll_of};
-ghost use Rattle.desk.specs.State.{kept, next_event, start, with_written};
+ghost use Rattle.desk.specs.Polls.{poll_reply};
+ghost use Rattle.desk.specs.State.{decision_of, kept, next_event, start, with_written};
 ghost use Rattle.engine.specs.Inside.{IsSure, Logged, Stepped, refused_by, seen_by};
 ghost use Rattle.engine.specs.Opening.{RefusesReplay, taken, takes, written_in};
 ghost use Rattle.notify_log.specs.Logs.{next_number};
 
 use crate::committing::{commit, spell};
-use cat_types::{Answer, Call, Change, Event, ListOf, NoMemory, Step};
-use catalogue::{Bars, Cat, Decided, decide, poll_of};
+use cat_types::{Answer, Call, Change, Event, ListOf, NoMemory, Reply, Step};
+use catalogue::{Bars, Cat, Decided, Poll, decide, poll_of};
 use change_codec::Entry;
 use desk::reply_to_poll;
 use hms_outside::Disk;
@@ -86,12 +88,33 @@ impl Store {
         ensures { Stepped self.old caller (Client call.now moment) result self.new (seen_by D.lies D.past D.faults journal.old) (seen_by D.lies D.past D.faults journal.new) }
     {
         match poll_of(call) {
-            Some(poll) => match reply_to_poll(&self.log, self.newest, &poll) {
+            Some(poll) => match self.answer_poll(&poll) {
                 Ok(reply) => Answer::Reply(reply),
                 Err(NoMemory) => Answer::NoMemory,
             },
             None => self.decide_call(journal, caller, call, moment),
         }
+    }
+
+    // The reply to a poll.
+    fn answer_poll(&self, poll: &Poll) -> Result<Reply, NoMemory>
+        ensures { IfOk result (λ reply. reply ≡ poll_reply self.now.events self.now.newest poll.now) }
+    {
+        reply_to_poll(&self.log, self.newest, poll)
+    }
+
+    // What is decided of a call that is no poll.
+    fn decided(&self, call: &Call, moment: u64) -> Decided
+        requires { poll_of call.now ≡ None }
+        ensures decided { Decides (decision_of self.now call.now moment) result }
+        ensures taken { IfChange result (λ change. takes_call self.now.catalogue (self.now.newest + 1) change ≡ true) }
+    {
+        let bars = Bars {
+            replicas: ListOf::new(self.alloc),
+            dumping: ListOf::new(self.alloc),
+            loading: ListOf::new(self.alloc),
+        };
+        decide(self.alloc, &self.cat, &bars, call, moment, self.newest + 1)
     }
 
     // Decides a call that is no poll, and does what it changes.
@@ -106,12 +129,7 @@ impl Store {
         requires sure { IsSure (seen_by D.lies D.past D.faults journal.old) }
         ensures { Stepped self.old _caller (Client call.now moment) result self.new (seen_by D.lies D.past D.faults journal.old) (seen_by D.lies D.past D.faults journal.new) }
     {
-        let bars = Bars {
-            replicas: ListOf::new(self.alloc),
-            dumping: ListOf::new(self.alloc),
-            loading: ListOf::new(self.alloc),
-        };
-        match decide(self.alloc, &self.cat, &bars, call, moment, self.newest + 1) {
+        match self.decided(call, moment) {
             Decided::Reply(reply) => Answer::Reply(reply),
             Decided::Change(change, reply) => match self.accept(journal, change, moment) {
                 Ok(()) => Answer::Reply(reply),
