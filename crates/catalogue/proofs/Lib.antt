@@ -1,3 +1,4 @@
+pub mod Cutting
 pub mod Rules
 pub mod Asking
 pub mod Listing

@@ -15,7 +15,7 @@ use kept_records::altered_part;
 use std::alloc::Global;
 
 // Why a call isn't done.
-#[derive(Clone, Copy)]
+#[derive(Drop)]
 pub(crate) enum Barred {
     Refused(Refusal),
     NoMemory,
