@@ -14,20 +14,24 @@ use Rattle.cat_types.specs.declared.replies.Reply.TheVariants.{Nothing}
 use Rattle.cat_values.specs.Names.{is_object_name, lower}
 use Rattle.cat_objects.specs.Catalogue.{Catalogue, database, has_database, table}
 use Rattle.cat_objects.specs.Changes.{are_some, has_operation, takes_call}
-use Rattle.catalogue.specs.Databases.{Rule, alter_database_rules, born_of, create_database_rules, database_altered, database_created, database_dropped, drop_database_rules, kept_name, kept_record}
-use Rattle.catalogue.specs.Decisions.{Decides, IfChange, decided_by, told}
-use Rattle.catalogue.specs.PartChanges.{add_list_rules, all_altered, alter_partition_rules, alter_partitions_rules, append_partition_rules, appended, drop_partition_rules, if_any, list_added, list_change, ops_under, part_change, partition_appended, partition_dropped, partition_renamed, rename_partition_rules}
-use Rattle.catalogue.specs.Partitions.{Meaning, by_name, by_values, meant_values}
-use Rattle.catalogue.specs.Rules.{breaks, decision, first_broken, first_refusal, lacks_number}
-use Rattle.catalogue.specs.Tables.{alter_table_rules, create_table_rules, drop_table_rules, renames, table_altered, table_born, table_created, table_dropped, table_put}
-use Rattle.catalogue.specs.declared.bars.Bars.{Bars}
-use Rattle.catalogue.specs.declared.decided.Decided.{Decided}
-use Rattle.catalogue.specs.declared.decided.Decided.TheVariants as decided
+use Rattle.rulings.specs.Rules.{Rule, first_broken}
+use Rattle.table_rules.specs.Databases.{alter_database_rules, create_database_rules, database_altered, database_created, database_dropped, drop_database_rules, kept_record}
+use Rattle.rulings.specs.Changes.{born_of, if_any, part_change, table_born}
+use Rattle.rulings.specs.Names.{kept_name}
+use Rattle.rulings.specs.Decisions.{Decides, IfChange, decided_by, told}
+use Rattle.part_rules.specs.PartChanges.{add_list_rules, all_altered, alter_partition_rules, alter_partitions_rules, append_partition_rules, appended, drop_partition_rules, list_added, list_change, ops_under, partition_appended, partition_dropped, partition_renamed, rename_partition_rules}
+use Rattle.rulings.specs.Meant.{Meaning, by_name, by_values, meant_values}
+use Rattle.catalogue.specs.Rules.{breaks, decision, first_refusal, lacks_number}
+use Rattle.table_rules.specs.Tables.{alter_table_rules, create_table_rules, drop_table_rules, renames, table_altered, table_created, table_dropped, table_put}
+use Rattle.rulings.specs.declared.bars.Bars.{Bars}
+use Rattle.rulings.specs.declared.decided.Decided.{Decided}
+use Rattle.rulings.specs.declared.decided.Decided.TheVariants as decided
 use Rattle.cat_objects.specs.declared.held.HeldTable.{HeldTable}
-use Rattle.catalogue.specs.declared.refusal.Refusal.{Refusal}
-use Rattle.catalogue.proofs.DecidingParts.{add_list_taken, alter_list_taken, alter_one_taken, append_taken, drop_part_taken, rename_does, rename_taken}
-use Rattle.catalogue.proofs.DecidingTables.{alter_table_taken, create_table_taken, drop_table_taken}
-use Rattle.catalogue.proofs.Rules.{both, born_there, call_taken, fits_there, has_number, kept_named, unbroken}
+use Rattle.rulings.specs.declared.refusal.Refusal.{Refusal}
+use Rattle.part_rules.proofs.DecidingParts.{add_list_taken, alter_list_taken, alter_one_taken, append_taken, drop_part_taken, rename_does, rename_taken}
+use Rattle.table_rules.proofs.DecidingTables.{alter_table_taken, create_table_taken, drop_table_taken}
+use Rattle.rulings.proofs.Rules.{both, born_there, call_taken, fits_there, kept_named, unbroken}
+use Rattle.catalogue.proofs.Numbering.{has_number}
 
 -- ---- calls on databases
 

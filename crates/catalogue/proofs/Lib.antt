@@ -1,4 +1,3 @@
-pub mod Cutting
 pub mod Rules
 pub mod Asking
 pub mod Listing

@@ -9,15 +9,17 @@ use Rattle.cat_types.specs.declared.replies.Reply.{Reply}
 use Rattle.cat_types.specs.declared.replies.Reply.TheVariants.{Flag, Names, Nothing, Parts, Tables}
 use Rattle.cat_objects.specs.Catalogue.{Catalogue, database, table}
 use Rattle.cat_objects.specs.Changes.{has_operation}
-use Rattle.catalogue.specs.Databases.{Rule, alter_database_rules, create_database_rules, database_altered, database_created, database_dropped, drop_database_rules, get_database_rules, matching, shown_as}
-use Rattle.catalogue.specs.Decisions.{Decision, decided_by}
-use Rattle.catalogue.specs.PartChanges.{add_list_rules, add_partitions_rules, alter_partition_rules, alter_partitions_rules, append_partition_rules, appended_as, count_added, drop_partition_rules, list_change, list_told, partition_appended, partition_dropped, partition_renamed, partitions_added, parts_altered, rename_partition_rules, told_if}
-use Rattle.catalogue.specs.Partitions.{by_name, by_values, get_partition_rules, list_fitting_rules, list_partitions_rules, meant_as, meant_values, names_listed, parts_listed, parts_named}
-use Rattle.catalogue.specs.Tables.{alter_table_rules, columns_as, create_table_rules, drop_table_rules, get_columns_rules, get_table_req_rules, get_table_rules, schema_as, table_altered, table_as, table_created, table_dropped, table_names, tables_named}
-use Rattle.catalogue.specs.declared.bars.Bars.{Bars}
-use Rattle.catalogue.specs.declared.part_adds.Told.TheVariants as told
-use Rattle.catalogue.specs.declared.refusal.Refusal.{Refusal}
-use Rattle.catalogue.specs.declared.refusal.Refusal.TheVariants.{EventNumbersUsedUp}
+use Rattle.rulings.specs.Rules.{Rule}
+use Rattle.table_rules.specs.Databases.{alter_database_rules, create_database_rules, database_altered, database_created, database_dropped, drop_database_rules, get_database_rules, matching, shown_as}
+use Rattle.rulings.specs.Decisions.{Decision, decided_by}
+use Rattle.part_rules.specs.PartChanges.{add_list_rules, add_partitions_rules, alter_partition_rules, alter_partitions_rules, append_partition_rules, appended_as, count_added, drop_partition_rules, list_change, list_told, partition_appended, partition_dropped, partition_renamed, partitions_added, parts_altered, rename_partition_rules, told_if}
+use Rattle.rulings.specs.Meant.{by_name, by_values, meant_values}
+use Rattle.part_rules.specs.Partitions.{get_partition_rules, list_fitting_rules, list_partitions_rules, meant_as, names_listed, parts_listed, parts_named}
+use Rattle.table_rules.specs.Tables.{alter_table_rules, columns_as, create_table_rules, drop_table_rules, get_columns_rules, get_table_req_rules, get_table_rules, schema_as, table_altered, table_as, table_created, table_dropped, table_names, tables_named}
+use Rattle.rulings.specs.declared.bars.Bars.{Bars}
+use Rattle.part_rules.specs.declared.part_adds.Told.TheVariants as told
+use Rattle.rulings.specs.declared.refusal.Refusal.{Refusal}
+use Rattle.rulings.specs.declared.refusal.Refusal.TheVariants.{EventNumbersUsedUp}
 
 -- the refusal of the first of these rules that is broken
 abbrev pub first_broken : List Rule → Option Refusal

@@ -2,7 +2,7 @@
 
 ghost use Rattle.std.specs.Prelude.{◌≡◌, [], ◌∷◌, IfOk, None, Some, true};
 ghost use Rattle.cat_objects.specs.Changes.{takes_call};
-ghost use Rattle.catalogue.specs.Decisions.{Decides, IfChange, decided_by, refused};
+ghost use Rattle.rulings.specs.Decisions.{Decides, IfChange, decided_by, refused};
 ghost use Rattle.catalogue.specs.Polls.{poll_of};
 ghost use Rattle.catalogue.specs.Rules.{decision, lacks_number, ruled};
 
@@ -178,35 +178,5 @@ fn decide_by_rules(
         } => rename_partition(alloc, cat, bars, db, table, values, part, moment),
         Call::GetNextNotification { last: _, max: _ } => unreachable!(),
         Call::GetCurrentNotificationEventId => unreachable!(),
-    }
-}
-
-// A change with one operation.
-pub(crate) fn one_op(
-    alloc: Global,
-    kind: EventKind,
-    db: Text,
-    db_born: u64,
-    op: Op,
-) -> Result<Change, NoMemory>
-    ensures { IfOk result (λ made. made ≡ record { kind = kind; db = db; db_born = db_born; ops = op ∷ [] }) }
-{
-    let ops = ListOf::from_vec(vec![in alloc; op]?)?;
-    Ok(Change {
-        kind,
-        db,
-        db_born,
-        ops,
-    })
-}
-
-// Tells a refusal.
-pub(crate) fn refused(alloc: Global, refusal: Refusal) -> Decided
-    ensures { Decides (refused refusal) result }
-{
-    let number = refusal.number();
-    match refusal.text(alloc) {
-        Ok(text) => Decided::Reply(Reply::Refused(number, text)),
-        Err(NoMemory) => Decided::NoMemory,
     }
 }
