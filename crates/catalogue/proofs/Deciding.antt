@@ -33,24 +33,6 @@ use Rattle.table_rules.proofs.DecidingTables.{alter_table_taken, create_table_ta
 use Rattle.rulings.proofs.Rules.{both, born_there, call_taken, fits_there, kept_named, unbroken}
 use Rattle.catalogue.proofs.Numbering.{has_number}
 
--- ---- calls on databases
-
-create_taken : (cat : Catalogue) (db : DbArg) (next : ℕ) → first_broken (create_database_rules cat db) ≡ None → nat_le next 9223372036854775807 ≡ true → takes_call cat next (database_created db next) ≡ true
-create_taken cat db next none room =
-    let tests = unbroken (create_database_rules cat db) none in
-    call_taken cat kind.CreateDatabase (kept_name db.name) next (PutDb (kept_record db.rec)) next room
-    (both (is_object_name (kept_name db.name)) _ (kept_named db.name tests.0) (both (not (has_database cat (kept_name db.name))) _ (ap not tests.1.0) (both (next == next) true (eq-eqb next next refl) refl)))
-
-drop_taken : (cat : Catalogue) (bars : Bars) (name : List ℕ) (cascade : Bool) (next : ℕ) → first_broken (drop_database_rules cat bars name cascade) ≡ None → nat_le next 9223372036854775807 ≡ true → takes_call cat next (database_dropped cat name) ≡ true
-drop_taken cat bars name cascade next none room =
-    let tests = unbroken (drop_database_rules cat bars name cascade) none in
-    call_taken cat kind.DropDatabase name (born_of (database cat name)) DropDb next room (both _ true (born_there (database cat name) tests.0) refl)
-
-alter_taken : (cat : Catalogue) (bars : Bars) (name : List ℕ) (db : DbArg) (next : ℕ) → first_broken (alter_database_rules cat bars name db) ≡ None → nat_le next 9223372036854775807 ≡ true → takes_call cat next (database_altered cat name db) ≡ true
-alter_taken cat bars name db next none room =
-    let tests = unbroken (alter_database_rules cat bars name db) none in
-    call_taken cat kind.AlterDatabase name (born_of (database cat name)) (PutDb (kept_record db.rec)) next room (fits_there cat kind.AlterDatabase name (PutDb (kept_record db.rec)) tests.0 refl)
-
 -- ---- a call that changes something
 
 -- the change of a call that breaks no rule can be taken
@@ -65,18 +47,6 @@ by_rules : (cat : Catalogue) (next : ℕ) (rules : List Rule) (change c : Change
     → decided.Change c r ≡ told (decided_by (first_refusal (first_broken rules) (lacks_number (Some change) next)) (Some change) s) → takes_call cat next c ≡ true
 by_rules cat next rules change c r s makes taken is =
     by_refusals cat next (first_broken rules) (lacks_number (Some change) next) change c r s (λ none room. taken none (has_number change next (makes none) room)) is
-
--- a table that is there is put or moved
-either_some : (b : Bool) (first last : Op) → are_some (if b then first ∷ [] else last ∷ []) ≡ true
-either_some true first last = refl
-either_some false first last = refl
-
-put_some : (held : Option HeldTable) (name : List ℕ) (new : TableArg) (moment : ℕ) → not (is_some held) ≡ false → are_some (table_put held name new moment) ≡ true
-put_some None name new moment there = absurd cc
-put_some (Some held) name new moment there = either_some (renames new name) _ _
-
-alter_makes : (cat : Catalogue) (bars : Bars) (db name : List ℕ) (new : TableArg) (moment : ℕ) → first_broken (alter_table_rules cat bars db name new) ≡ None → has_operation (table_altered cat db name new moment) ≡ true
-alter_makes cat bars db name new moment none = put_some (table cat db name) name new moment (unbroken (alter_table_rules cat bars db name new) none).1.1.0
 
 -- ---- a call that changes nothing
 
