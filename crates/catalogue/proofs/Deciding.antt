@@ -2,14 +2,18 @@
 use Rattle.std.proofs.Common.{◌≡◌, ℕ, Bool, true, false, List, [], ◌∷◌, Option, Some, None, if◌then◌else◌, nat_le, refl, ap, ◌∙◌}
 use Rattle.cat_types.specs.declared.arguments.PartArg.{PartArg}
 use Rattle.cat_types.specs.declared.calls.Call.{Call}
-use Rattle.cat_types.specs.declared.calls.Call.TheVariants.{AddPartition, AddPartitions, AddPartitionsReq, AlterDatabase, AlterPartition, AlterPartitions, AlterTable, AppendPartition, AppendPartitionByName, CreateDatabase, CreateTable, DropDatabase, DropPartition, DropPartitionByName, DropTable, GetAllDatabases, GetAllTables, GetCurrentNotificationEventId, GetDatabase, GetDatabases, GetFields, GetNextNotification, GetPartition, GetPartitionByName, GetPartitionNames, GetPartitionNamesPs, GetPartitions, GetPartitionsByNames, GetPartitionsPs, GetSchema, GetTable, GetTableObjectsByName, GetTableReq, GetTables, RenamePartition}
+use Rattle.cat_types.specs.declared.calls.Call.TheVariants.{AddPartition, AddPartitions, AddPartitionsReq, AlterDatabase, AlterPartition, AlterPartitions, AlterTable, AppendPartition, AppendPartitionByName, CreateDatabase, CreateTable, DeletePartitionColumnStatistics, DeleteTableColumnStatistics, DropDatabase, DropPartition, DropPartitionByName, DropTable, GetAllDatabases, GetAllTables, GetCurrentNotificationEventId, GetDatabase, GetDatabases, GetFields, GetNextNotification, GetNumPartitionsByFilter, GetPartition, GetPartitionByName, GetPartitionColumnStatistics, GetPartitionNames, GetPartitionNamesPs, GetPartitions, GetPartitionsByFilter, GetPartitionsByNames, GetPartitionsPs, GetSchema, GetTable, GetTableColumnStatistics, GetTableObjectsByName, GetTableReq, GetTableStatisticsReq, GetTables, RenamePartition, UpdatePartitionColumnStatistics, UpdateTableColumnStatistics}
 use Rattle.cat_types.specs.declared.changes.Change.{Change}
 use Rattle.cat_types.specs.declared.changes.EventKind.TheVariants as kind
 use Rattle.cat_types.specs.declared.replies.Reply.{Reply}
-use Rattle.cat_types.specs.declared.replies.Reply.TheVariants.{Nothing}
+use Rattle.cat_types.specs.declared.replies.Reply.TheVariants.{Flag, Nothing}
 use Rattle.cat_values.specs.Names.{lower}
 use Rattle.cat_objects.specs.Catalogue.{Catalogue, table}
 use Rattle.cat_objects.specs.Changes.{has_operation, takes_call}
+use Rattle.cat_types.specs.declared.arguments.StatArg.{StatArg}
+use Rattle.std.specs.Prelude.{ℤ}
+use Rattle.stat_rules.specs.Statistics.{delete_part_rules, delete_table_rules, part_deleted, said_at, table_deleted, unless_empty, update_part_rules, update_table_rules}
+use Rattle.stat_rules.proofs.DecidingStats.{delete_part_makes, delete_part_taken, delete_table_makes, delete_table_taken, part_due, table_due, update_part_makes, update_part_taken, update_table_makes, update_table_taken}
 use Rattle.rulings.specs.Rules.{Rule, first_broken}
 use Rattle.table_rules.specs.Databases.{alter_database_rules, create_database_rules, database_altered, database_created, database_dropped, drop_database_rules}
 use Rattle.rulings.specs.Changes.{if_any, part_change, table_born}
@@ -58,6 +62,12 @@ if_any_by false cat next rules due c r s has taken is = no_change _ (first_broke
 by_any : (cat : Catalogue) (next : ℕ) (rules : List Rule) (due c : Change) (r s : Reply) → (first_broken rules ≡ None → has_operation due ≡ true → nat_le next 9223372036854775807 ≡ true → takes_call cat next due ≡ true)
     → decided.Change c r ≡ told (decided_by (first_refusal (first_broken rules) (lacks_number (if_any due) next)) (if_any due) s) → takes_call cat next c ≡ true
 by_any cat next rules due c r s taken is = if_any_by (has_operation due) cat next rules due c r s refl taken is
+
+-- a change that is made only where statistics are handed in
+by_unless : (cat : Catalogue) (next : ℕ) (rules : List Rule) (objects : List StatArg) (due c : Change) (r s : Reply) → (first_broken rules ≡ None → has_operation due ≡ true) → (first_broken rules ≡ None → nat_le next 9223372036854775807 ≡ true → takes_call cat next due ≡ true)
+    → decided.Change c r ≡ told (decided_by (first_refusal (first_broken rules) (lacks_number (unless_empty objects due) next)) (unless_empty objects due) s) → takes_call cat next c ≡ true
+by_unless cat next rules [] due c r s makes taken is = no_change _ (first_broken rules) c r s is
+by_unless cat next rules (object ∷ objects) due c r s makes taken is = by_rules cat next rules due c r s makes taken is
 
 -- the changes of calls that put partitions
 abbrev list_due : Catalogue → Option (List ℕ) → Option (List ℕ) → List PartArg → ℕ → Change
@@ -130,6 +140,21 @@ change_taken cat bars (AlterPartitions db name parts) moment next c r is =
 change_taken cat bars (RenamePartition db name values new) moment next c r is =
     by_rules cat next (rename_partition_rules cat bars (lower db) (lower name) values new) (partition_renamed cat (lower db) (lower name) values new moment) c r Nothing
     (rename_does cat bars (lower db) (lower name) values new moment) (rename_taken cat bars (lower db) (lower name) values new moment next) is
+change_taken cat bars (GetPartitionsByFilter db name filter max) moment next c r is = no_change _ (breaks cat bars (GetPartitionsByFilter db name filter max)) c r _ is
+change_taken cat bars (GetNumPartitionsByFilter db name filter) moment next c r is = no_change _ (breaks cat bars (GetNumPartitionsByFilter db name filter)) c r _ is
+change_taken cat bars (UpdateTableColumnStatistics new) moment next c r is =
+    let at : ℤ = said_at new.desc moment in
+    by_unless cat next (update_table_rules cat bars new) new.objects (table_due cat bars next new at) c r (Flag true) (update_table_makes cat bars next new at) (update_table_taken cat bars next new at) is
+change_taken cat bars (UpdatePartitionColumnStatistics new) moment next c r is =
+    let at : ℤ = said_at new.desc moment in
+    by_unless cat next (update_part_rules cat bars new) new.objects (part_due cat bars next new at) c r (Flag true) (update_part_makes cat bars next new at) (update_part_taken cat bars next new at) is
+change_taken cat bars (GetTableColumnStatistics db name col) moment next c r is = no_change _ (breaks cat bars (GetTableColumnStatistics db name col)) c r _ is
+change_taken cat bars (GetPartitionColumnStatistics db name called col) moment next c r is = no_change _ (breaks cat bars (GetPartitionColumnStatistics db name called col)) c r _ is
+change_taken cat bars (DeleteTableColumnStatistics db name col) moment next c r is =
+    by_rules cat next (delete_table_rules cat bars (lower db) (lower name) col) (table_deleted cat (lower db) (lower name) col) c r (Flag true) (delete_table_makes cat bars next (lower db) (lower name) col) (delete_table_taken cat bars next (lower db) (lower name) col) is
+change_taken cat bars (DeletePartitionColumnStatistics db name called col) moment next c r is =
+    by_rules cat next (delete_part_rules cat bars (lower db) (lower name) called col) (part_deleted cat (lower db) (lower name) called col) c r (Flag true) (delete_part_makes cat bars next (lower db) (lower name) col called) (delete_part_taken cat bars next (lower db) (lower name) col called) is
+change_taken cat bars (GetTableStatisticsReq db name cols) moment next c r is = no_change _ (breaks cat bars (GetTableStatisticsReq db name cols)) c r _ is
 change_taken cat bars (GetNextNotification last max) moment next c r is = no_change _ None c r _ is
 change_taken cat bars GetCurrentNotificationEventId moment next c r is = no_change _ None c r _ is
 

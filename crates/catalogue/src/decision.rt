@@ -8,12 +8,18 @@ ghost use Rattle.catalogue.specs.Rules.{decision, lacks_number, ruled};
 
 use cat_objects::{Cat, LAST_EVENT};
 use cat_types::{Call, Change, Reply};
+use filter_rules::{get_num_partitions_by_filter, get_partitions_by_filter};
 use part_rules::{
     add_partition, add_partitions, add_requested, alter_partition, alter_partitions,
     append_partition, drop_partition, get_partition, get_partition_names, get_partition_names_ps,
     get_partitions, get_partitions_by_names, get_partitions_ps, rename_partition,
 };
 use rulings::{Bars, Decided, Meant, Refusal, refused};
+use stat_rules::{
+    delete_partition_column_statistics, delete_table_column_statistics,
+    get_partition_column_statistics, get_table_column_statistics, get_table_statistics_req,
+    update_partition_column_statistics, update_table_column_statistics,
+};
 use std::alloc::Global;
 use table_rules::{
     alter_database, alter_table, create_database, create_table, drop_database, drop_table,
@@ -162,6 +168,42 @@ fn decide_by_rules(
             values,
             part,
         } => rename_partition(alloc, cat, bars, db, table, values, part, moment),
+        Call::GetPartitionsByFilter {
+            db,
+            table,
+            filter,
+            max,
+        } => get_partitions_by_filter(alloc, cat, db, table, filter, *max),
+        Call::GetNumPartitionsByFilter { db, table, filter } => {
+            get_num_partitions_by_filter(alloc, cat, db, table, filter)
+        }
+        Call::UpdateTableColumnStatistics { stats } => {
+            update_table_column_statistics(alloc, cat, bars, stats, moment)
+        }
+        Call::UpdatePartitionColumnStatistics { stats } => {
+            update_partition_column_statistics(alloc, cat, bars, stats, moment)
+        }
+        Call::GetTableColumnStatistics { db, table, col } => {
+            get_table_column_statistics(alloc, cat, db, table, col)
+        }
+        Call::GetPartitionColumnStatistics {
+            db,
+            table,
+            part,
+            col,
+        } => get_partition_column_statistics(alloc, cat, db, table, part, col),
+        Call::DeleteTableColumnStatistics { db, table, col } => {
+            delete_table_column_statistics(alloc, cat, bars, db, table, col)
+        }
+        Call::DeletePartitionColumnStatistics {
+            db,
+            table,
+            part,
+            col,
+        } => delete_partition_column_statistics(alloc, cat, bars, db, table, part, col),
+        Call::GetTableStatisticsReq { db, table, cols } => {
+            get_table_statistics_req(alloc, cat, db, table, cols)
+        }
         Call::GetNextNotification { last: _, max: _ } => unreachable!(),
         Call::GetCurrentNotificationEventId => unreachable!(),
     }
