@@ -1,55 +1,32 @@
 -- A change that is decided can be taken.
-use Rattle.std.proofs.Common.{◌≡◌, ◌==◌, ℕ, Bool, true, false, not, List, [], ◌∷◌, Option, Some, None, is_some, if◌then◌else◌, nat_le, refl, ap, ◌∙◌, eq-eqb}
-use Rattle.cat_types.specs.declared.arguments.DbArg.{DbArg}
+use Rattle.std.proofs.Common.{◌≡◌, ℕ, Bool, true, false, List, [], ◌∷◌, Option, Some, None, if◌then◌else◌, nat_le, refl, ap, ◌∙◌}
 use Rattle.cat_types.specs.declared.arguments.PartArg.{PartArg}
-use Rattle.cat_types.specs.declared.arguments.TableArg.{TableArg}
 use Rattle.cat_types.specs.declared.calls.Call.{Call}
 use Rattle.cat_types.specs.declared.calls.Call.TheVariants.{AddPartition, AddPartitions, AddPartitionsReq, AlterDatabase, AlterPartition, AlterPartitions, AlterTable, AppendPartition, AppendPartitionByName, CreateDatabase, CreateTable, DropDatabase, DropPartition, DropPartitionByName, DropTable, GetAllDatabases, GetAllTables, GetCurrentNotificationEventId, GetDatabase, GetDatabases, GetFields, GetNextNotification, GetPartition, GetPartitionByName, GetPartitionNames, GetPartitionNamesPs, GetPartitions, GetPartitionsByNames, GetPartitionsPs, GetSchema, GetTable, GetTableObjectsByName, GetTableReq, GetTables, RenamePartition}
 use Rattle.cat_types.specs.declared.changes.Change.{Change}
 use Rattle.cat_types.specs.declared.changes.EventKind.TheVariants as kind
-use Rattle.cat_types.specs.declared.changes.Op.{Op}
-use Rattle.cat_types.specs.declared.changes.Op.TheVariants.{DropDb, PutDb}
 use Rattle.cat_types.specs.declared.replies.Reply.{Reply}
 use Rattle.cat_types.specs.declared.replies.Reply.TheVariants.{Nothing}
-use Rattle.cat_values.specs.Names.{is_object_name, lower}
-use Rattle.cat_objects.specs.Catalogue.{Catalogue, database, has_database, table}
-use Rattle.cat_objects.specs.Changes.{are_some, has_operation, takes_call}
+use Rattle.cat_values.specs.Names.{lower}
+use Rattle.cat_objects.specs.Catalogue.{Catalogue, table}
+use Rattle.cat_objects.specs.Changes.{has_operation, takes_call}
 use Rattle.rulings.specs.Rules.{Rule, first_broken}
-use Rattle.table_rules.specs.Databases.{alter_database_rules, create_database_rules, database_altered, database_created, database_dropped, drop_database_rules, kept_record}
-use Rattle.rulings.specs.Changes.{born_of, if_any, part_change, table_born}
+use Rattle.table_rules.specs.Databases.{alter_database_rules, create_database_rules, database_altered, database_created, database_dropped, drop_database_rules}
+use Rattle.rulings.specs.Changes.{if_any, part_change, table_born}
 use Rattle.rulings.specs.Names.{kept_name}
 use Rattle.rulings.specs.Decisions.{Decides, IfChange, decided_by, told}
 use Rattle.part_rules.specs.PartChanges.{add_list_rules, all_altered, alter_partition_rules, alter_partitions_rules, append_partition_rules, appended, drop_partition_rules, list_added, list_change, ops_under, partition_appended, partition_dropped, partition_renamed, rename_partition_rules}
 use Rattle.rulings.specs.Meant.{Meaning, by_name, by_values, meant_values}
 use Rattle.catalogue.specs.Rules.{breaks, decision, first_refusal, lacks_number}
-use Rattle.table_rules.specs.Tables.{alter_table_rules, create_table_rules, drop_table_rules, renames, table_altered, table_created, table_dropped, table_put}
+use Rattle.table_rules.specs.Tables.{alter_table_rules, create_table_rules, drop_table_rules, table_altered, table_created, table_dropped}
 use Rattle.rulings.specs.declared.bars.Bars.{Bars}
 use Rattle.rulings.specs.declared.decided.Decided.{Decided}
 use Rattle.rulings.specs.declared.decided.Decided.TheVariants as decided
-use Rattle.cat_objects.specs.declared.held.HeldTable.{HeldTable}
 use Rattle.rulings.specs.declared.refusal.Refusal.{Refusal}
 use Rattle.part_rules.proofs.DecidingParts.{add_list_taken, alter_list_taken, alter_one_taken, append_taken, drop_part_taken, rename_does, rename_taken}
-use Rattle.table_rules.proofs.DecidingTables.{alter_table_taken, create_table_taken, drop_table_taken}
-use Rattle.rulings.proofs.Rules.{both, born_there, call_taken, fits_there, kept_named, unbroken}
+use Rattle.table_rules.proofs.DecidingDatabases.{alter_database_taken, create_database_taken, drop_database_taken}
+use Rattle.table_rules.proofs.DecidingTables.{alter_table_makes, alter_table_taken, create_table_taken, drop_table_taken}
 use Rattle.catalogue.proofs.Numbering.{has_number}
-
--- ---- calls on databases
-
-create_taken : (cat : Catalogue) (db : DbArg) (next : ℕ) → first_broken (create_database_rules cat db) ≡ None → nat_le next 9223372036854775807 ≡ true → takes_call cat next (database_created db next) ≡ true
-create_taken cat db next none room =
-    let tests = unbroken (create_database_rules cat db) none in
-    call_taken cat kind.CreateDatabase (kept_name db.name) next (PutDb (kept_record db.rec)) next room
-    (both (is_object_name (kept_name db.name)) _ (kept_named db.name tests.0) (both (not (has_database cat (kept_name db.name))) _ (ap not tests.1.0) (both (next == next) true (eq-eqb next next refl) refl)))
-
-drop_taken : (cat : Catalogue) (bars : Bars) (name : List ℕ) (cascade : Bool) (next : ℕ) → first_broken (drop_database_rules cat bars name cascade) ≡ None → nat_le next 9223372036854775807 ≡ true → takes_call cat next (database_dropped cat name) ≡ true
-drop_taken cat bars name cascade next none room =
-    let tests = unbroken (drop_database_rules cat bars name cascade) none in
-    call_taken cat kind.DropDatabase name (born_of (database cat name)) DropDb next room (both _ true (born_there (database cat name) tests.0) refl)
-
-alter_taken : (cat : Catalogue) (bars : Bars) (name : List ℕ) (db : DbArg) (next : ℕ) → first_broken (alter_database_rules cat bars name db) ≡ None → nat_le next 9223372036854775807 ≡ true → takes_call cat next (database_altered cat name db) ≡ true
-alter_taken cat bars name db next none room =
-    let tests = unbroken (alter_database_rules cat bars name db) none in
-    call_taken cat kind.AlterDatabase name (born_of (database cat name)) (PutDb (kept_record db.rec)) next room (fits_there cat kind.AlterDatabase name (PutDb (kept_record db.rec)) tests.0 refl)
 
 -- ---- a call that changes something
 
@@ -65,18 +42,6 @@ by_rules : (cat : Catalogue) (next : ℕ) (rules : List Rule) (change c : Change
     → decided.Change c r ≡ told (decided_by (first_refusal (first_broken rules) (lacks_number (Some change) next)) (Some change) s) → takes_call cat next c ≡ true
 by_rules cat next rules change c r s makes taken is =
     by_refusals cat next (first_broken rules) (lacks_number (Some change) next) change c r s (λ none room. taken none (has_number change next (makes none) room)) is
-
--- a table that is there is put or moved
-either_some : (b : Bool) (first last : Op) → are_some (if b then first ∷ [] else last ∷ []) ≡ true
-either_some true first last = refl
-either_some false first last = refl
-
-put_some : (held : Option HeldTable) (name : List ℕ) (new : TableArg) (moment : ℕ) → not (is_some held) ≡ false → are_some (table_put held name new moment) ≡ true
-put_some None name new moment there = absurd cc
-put_some (Some held) name new moment there = either_some (renames new name) _ _
-
-alter_makes : (cat : Catalogue) (bars : Bars) (db name : List ℕ) (new : TableArg) (moment : ℕ) → first_broken (alter_table_rules cat bars db name new) ≡ None → has_operation (table_altered cat db name new moment) ≡ true
-alter_makes cat bars db name new moment none = put_some (table cat db name) name new moment (unbroken (alter_table_rules cat bars db name new) none).1.1.0
 
 -- ---- a call that changes nothing
 
@@ -125,12 +90,12 @@ drop_call_taken cat bars db name meant next c r s is =
 change_taken : (cat : Catalogue) (bars : Bars) (call : Call) (moment next : ℕ) (c : Change) (r : Reply) → decided.Change c r ≡ told (decision cat bars call moment next) → takes_call cat next c ≡ true
 change_taken cat bars GetAllDatabases moment next c r is = no_change _ None c r _ is
 change_taken cat bars (GetDatabase name) moment next c r is = no_change _ (breaks cat bars (GetDatabase name)) c r _ is
-change_taken cat bars (CreateDatabase db) moment next c r is = by_rules cat next (create_database_rules cat db) (database_created db next) c r Nothing (λ _. refl) (create_taken cat db next) is
+change_taken cat bars (CreateDatabase db) moment next c r is = by_rules cat next (create_database_rules cat db) (database_created db next) c r Nothing (λ _. refl) (create_database_taken cat db next) is
 change_taken cat bars (DropDatabase name cascade) moment next c r is =
-    by_rules cat next (drop_database_rules cat bars (lower name) cascade) (database_dropped cat (lower name)) c r Nothing (λ _. refl) (drop_taken cat bars (lower name) cascade next) is
+    by_rules cat next (drop_database_rules cat bars (lower name) cascade) (database_dropped cat (lower name)) c r Nothing (λ _. refl) (drop_database_taken cat bars (lower name) cascade next) is
 change_taken cat bars (GetDatabases pattern) moment next c r is = no_change _ None c r _ is
 change_taken cat bars (AlterDatabase name db) moment next c r is =
-    by_rules cat next (alter_database_rules cat bars (lower name) db) (database_altered cat (lower name) db) c r Nothing (λ _. refl) (alter_taken cat bars (lower name) db next) is
+    by_rules cat next (alter_database_rules cat bars (lower name) db) (database_altered cat (lower name) db) c r Nothing (λ _. refl) (alter_database_taken cat bars (lower name) db next) is
 change_taken cat bars (CreateTable new) moment next c r is = by_rules cat next (create_table_rules cat bars new) (table_created cat new moment next) c r Nothing (λ _. refl) (create_table_taken cat bars new moment next) is
 change_taken cat bars (DropTable db name) moment next c r is =
     by_rules cat next (drop_table_rules cat bars (lower db) (lower name)) (table_dropped cat (lower db) (lower name)) c r Nothing (λ _. refl) (drop_table_taken cat bars (lower db) (lower name) next) is
@@ -140,7 +105,7 @@ change_taken cat bars (GetTable db name) moment next c r is = no_change _ (break
 change_taken cat bars (GetTableReq db name) moment next c r is = no_change _ (breaks cat bars (GetTableReq db name)) c r _ is
 change_taken cat bars (GetTableObjectsByName db names) moment next c r is = no_change _ None c r _ is
 change_taken cat bars (AlterTable db name new) moment next c r is =
-    by_rules cat next (alter_table_rules cat bars (lower db) (lower name) new) (table_altered cat (lower db) (lower name) new moment) c r Nothing (alter_makes cat bars (lower db) (lower name) new moment) (alter_table_taken cat bars (lower db) (lower name) new moment next) is
+    by_rules cat next (alter_table_rules cat bars (lower db) (lower name) new) (table_altered cat (lower db) (lower name) new moment) c r Nothing (alter_table_makes cat bars (lower db) (lower name) new moment) (alter_table_taken cat bars (lower db) (lower name) new moment next) is
 change_taken cat bars (GetFields db name) moment next c r is = no_change _ (breaks cat bars (GetFields db name)) c r _ is
 change_taken cat bars (GetSchema db name) moment next c r is = no_change _ (breaks cat bars (GetSchema db name)) c r _ is
 change_taken cat bars (AddPartition part) moment next c r is = list_taken true false cat bars part.db part.table (part ∷ []) moment next c r _ is

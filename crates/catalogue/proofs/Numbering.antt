@@ -1,5 +1,7 @@
 -- A call that its own rules decide is decided once a number for its event is looked for.
-use Rattle.std.proofs.Common.{◌≡◌, ℕ, Option, Some, None, subst}
+use Rattle.std.proofs.Common.{◌≡◌, ℕ, Bool, true, false, ◌&&◌, Option, Some, None, if◌then◌else◌, nat_lt, nat_le, refl, subst, arith}
+use Rattle.std.proofs.lemmas.Bool.Decides.{nat_tests}
+use Rattle.cat_objects.specs.Changes.{has_operation}
 use Rattle.cat_types.specs.declared.changes.Change.{Change}
 use Rattle.cat_types.specs.declared.replies.Reply.{Reply}
 use Rattle.rulings.specs.Decisions.{Decides, decided_by, told}
@@ -7,6 +9,7 @@ use Rattle.catalogue.specs.Rules.{first_refusal, lacks_number}
 use Rattle.rulings.specs.declared.decided.Decided.{Decided}
 use Rattle.rulings.specs.declared.decided.Decided.TheVariants as decided
 use Rattle.rulings.specs.declared.refusal.Refusal.{Refusal}
+use Rattle.rulings.specs.declared.refusal.Refusal.TheVariants.{EventNumbersUsedUp}
 
 -- a call that changes something
 pub numbered : (o : Option Refusal) (due : Option Change) (result : Reply) (next : ℕ) (change : Change) (reply : Reply) (answer : Decided) → decided.Change change reply ≡ told (decided_by o due result)

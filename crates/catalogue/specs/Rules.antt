@@ -1,30 +1,25 @@
 -- Which calls are refused, what the others change, and what they result in.
-use Rattle.std.specs.Prelude.{ℕ, nat_lt, true, false, ◌&&◌, List, [], ◌∷◌, Option, None, Some, if◌then◌else◌}
+use Rattle.std.specs.Prelude.{ℕ, nat_lt, false, ◌&&◌, List, [], ◌∷◌, Option, None, Some, if◌then◌else◌, true}
 use Rattle.std.specs.Map.{keys_of}
-use Rattle.cat_values.specs.Names.{lower}
-use Rattle.cat_types.specs.declared.calls.Call.{Call}
-use Rattle.cat_types.specs.declared.calls.Call.TheVariants.{AddPartition, AddPartitions, AddPartitionsReq, AlterDatabase, AlterPartition, AlterPartitions, AlterTable, AppendPartition, AppendPartitionByName, CreateDatabase, CreateTable, DropDatabase, DropPartition, DropPartitionByName, DropTable, GetAllDatabases, GetAllTables, GetCurrentNotificationEventId, GetDatabase, GetDatabases, GetFields, GetNextNotification, GetPartition, GetPartitionByName, GetPartitionNames, GetPartitionNamesPs, GetPartitions, GetPartitionsByNames, GetPartitionsPs, GetSchema, GetTable, GetTableObjectsByName, GetTableReq, GetTables, RenamePartition}
-use Rattle.cat_types.specs.declared.changes.Change.{Change}
-use Rattle.cat_types.specs.declared.replies.Reply.{Reply}
-use Rattle.cat_types.specs.declared.replies.Reply.TheVariants.{Flag, Names, Nothing, Parts, Tables}
 use Rattle.cat_objects.specs.Catalogue.{Catalogue, database, table}
 use Rattle.cat_objects.specs.Changes.{has_operation}
-use Rattle.rulings.specs.Rules.{Rule}
-use Rattle.table_rules.specs.Databases.{alter_database_rules, create_database_rules, database_altered, database_created, database_dropped, drop_database_rules, get_database_rules, matching, shown_as}
-use Rattle.rulings.specs.Decisions.{Decision, decided_by}
-use Rattle.part_rules.specs.PartChanges.{add_list_rules, add_partitions_rules, alter_partition_rules, alter_partitions_rules, append_partition_rules, appended_as, count_added, drop_partition_rules, list_change, list_told, partition_appended, partition_dropped, partition_renamed, partitions_added, parts_altered, rename_partition_rules, told_if}
-use Rattle.rulings.specs.Meant.{by_name, by_values, meant_values}
-use Rattle.part_rules.specs.Partitions.{get_partition_rules, list_fitting_rules, list_partitions_rules, meant_as, names_listed, parts_listed, parts_named}
-use Rattle.table_rules.specs.Tables.{alter_table_rules, columns_as, create_table_rules, drop_table_rules, get_columns_rules, get_table_req_rules, get_table_rules, schema_as, table_altered, table_as, table_created, table_dropped, table_names, tables_named}
-use Rattle.rulings.specs.declared.bars.Bars.{Bars}
+use Rattle.cat_types.specs.declared.calls.Call.TheVariants.{AddPartition, AddPartitions, AddPartitionsReq, AlterDatabase, AlterPartition, AlterPartitions, AlterTable, AppendPartition, AppendPartitionByName, CreateDatabase, CreateTable, DropDatabase, DropPartition, DropPartitionByName, DropTable, GetAllDatabases, GetAllTables, GetCurrentNotificationEventId, GetDatabase, GetDatabases, GetFields, GetNextNotification, GetPartition, GetPartitionByName, GetPartitionNames, GetPartitionNamesPs, GetPartitions, GetPartitionsByNames, GetPartitionsPs, GetSchema, GetTable, GetTableObjectsByName, GetTableReq, GetTables, RenamePartition}
+use Rattle.cat_types.specs.declared.calls.Call.{Call}
+use Rattle.cat_types.specs.declared.changes.Change.{Change}
+use Rattle.cat_types.specs.declared.replies.Reply.TheVariants.{Nothing, Tables, Names, Parts, Flag}
+use Rattle.cat_types.specs.declared.replies.Reply.{Reply}
+use Rattle.cat_values.specs.Names.{lower}
+use Rattle.part_rules.specs.PartChanges.{append_partition_rules, partition_appended, appended_as, add_list_rules, list_change, list_told, add_partitions_rules, partitions_added, count_added, told_if, drop_partition_rules, partition_dropped, alter_partition_rules, parts_altered, alter_partitions_rules, rename_partition_rules, partition_renamed}
+use Rattle.part_rules.specs.Partitions.{get_partition_rules, meant_as, list_partitions_rules, list_fitting_rules, parts_listed, names_listed, parts_named}
 use Rattle.part_rules.specs.declared.part_adds.Told.TheVariants as told
-use Rattle.rulings.specs.declared.refusal.Refusal.{Refusal}
+use Rattle.rulings.specs.Decisions.{Decision, decided_by}
+use Rattle.rulings.specs.Meant.{by_values, by_name, meant_values}
+use Rattle.rulings.specs.Rules.{Rule, first_broken}
+use Rattle.rulings.specs.declared.bars.Bars.{Bars}
 use Rattle.rulings.specs.declared.refusal.Refusal.TheVariants.{EventNumbersUsedUp}
-
--- the refusal of the first of these rules that is broken
-abbrev pub first_broken : List Rule → Option Refusal
-first_broken [] = None
-first_broken (rule ∷ rules) = if rule.0 then Some rule.1 else first_broken rules
+use Rattle.rulings.specs.declared.refusal.Refusal.{Refusal}
+use Rattle.table_rules.specs.Databases.{create_database_rules, database_created, get_database_rules, shown_as, matching, drop_database_rules, database_dropped, alter_database_rules, database_altered}
+use Rattle.table_rules.specs.Tables.{create_table_rules, table_created, drop_table_rules, table_dropped, alter_table_rules, table_altered, get_table_rules, get_table_req_rules, get_columns_rules, table_as, table_names, tables_named, columns_as, schema_as, requested_table}
 
 -- a call's own rules, in their order; a poll has none
 abbrev pub rules_of : Catalogue → Bars → Call → List Rule
@@ -101,12 +96,6 @@ change cat bars (AlterPartitions db name parts) moment next = parts_altered cat 
 change cat bars (RenamePartition db name values part) moment next = Some (partition_renamed cat (lower db) (lower name) values part moment)
 change cat bars (GetNextNotification last max) moment next = None
 change cat bars GetCurrentNotificationEventId moment next = None
-
--- the table that was asked for by a request, where it is there
-abbrev pub requested_table : Catalogue → Option (List ℕ) → Option (List ℕ) → Reply
-requested_table cat None name = Nothing
-requested_table cat (Some db) None = Nothing
-requested_table cat (Some db) (Some name) = table_as (table cat (lower db) (lower name)) (lower db) (lower name)
 
 -- what an accepted call results in; nothing is said here of a poll, whose result isn't the catalogue's
 abbrev pub result_of : Catalogue → Bars → Call → ℕ → ℕ → Reply

@@ -1,37 +1,25 @@
 //! What a call is refused for, changes and results in.
 
-ghost use Rattle.std.specs.Prelude.{◌≡◌, [], ◌∷◌, IfOk, None, Some, true};
+ghost use Rattle.std.specs.Prelude.{◌≡◌, None, Some, true};
 ghost use Rattle.cat_objects.specs.Changes.{takes_call};
-ghost use Rattle.rulings.specs.Decisions.{Decides, IfChange, decided_by, refused};
+ghost use Rattle.rulings.specs.Decisions.{Decides, IfChange, decided_by};
 ghost use Rattle.catalogue.specs.Polls.{poll_of};
 ghost use Rattle.catalogue.specs.Rules.{decision, lacks_number, ruled};
 
-use crate::databases::{
-    alter_database, create_database, drop_database, get_all_databases, get_database, get_databases,
+use cat_objects::{Cat, LAST_EVENT};
+use cat_types::{Call, Change, Reply};
+use part_rules::{
+    add_partition, add_partitions, add_requested, alter_partition, alter_partitions,
+    append_partition, drop_partition, get_partition, get_partition_names, get_partition_names_ps,
+    get_partitions, get_partitions_by_names, get_partitions_ps, rename_partition,
 };
-use crate::meant::Meant;
-use crate::part_adds::{add_partition, add_partitions, add_requested, append_partition};
-use crate::part_changes::{alter_partition, alter_partitions, drop_partition, rename_partition};
-use crate::part_reads::{
-    get_partition, get_partition_names, get_partition_names_ps, get_partitions,
-    get_partitions_by_names, get_partitions_ps,
-};
-use crate::table_changes::{decide_alter_table, decide_create_table, decide_drop_table};
-use crate::table_reads::{
-    get_all_tables, get_fields, get_schema, get_table, get_table_req, get_tables, get_tables_named,
-};
-use crate::{Bars, Cat, Decided, LAST_EVENT, Refusal};
-use cat_types::{Call, Change, EventKind, ListOf, NoMemory, Op, Reply, Text};
+use rulings::{Bars, Decided, Meant, Refusal, refused};
 use std::alloc::Global;
-
-/// How many databases a store has at most.
-pub const DATABASE_LIMIT: u64 = 1_000_000;
-
-/// How many tables a database has at most.
-pub const TABLE_LIMIT: u64 = 1_000_000;
-
-/// How many partitions a table has at most.
-pub const PARTITION_LIMIT: u64 = 1_000_000;
+use table_rules::{
+    alter_database, alter_table, create_database, create_table, drop_database, drop_table,
+    get_all_databases, get_all_tables, get_database, get_databases, get_fields, get_schema,
+    get_table, get_table_req, get_tables, get_tables_named,
+};
 
 /// Decides a call over a catalogue: its refusal, or its change and its result. It needs a call that
 /// is no poll. `bars` says what bars changes, `moment` is the time in seconds since 1970, and `next`
@@ -93,17 +81,15 @@ fn decide_by_rules(
         Call::DropDatabase { name, cascade } => drop_database(alloc, cat, bars, name, *cascade),
         Call::GetDatabases { pattern } => get_databases(alloc, cat, pattern),
         Call::AlterDatabase { name, db } => alter_database(alloc, cat, bars, name, db),
-        Call::CreateTable { table } => decide_create_table(alloc, cat, bars, table, moment, next),
-        Call::DropTable { db, table } => decide_drop_table(
-            alloc, cat, bars, db, table, moment, next,
-        ),
+        Call::CreateTable { table } => create_table(alloc, cat, bars, table, moment, next),
+        Call::DropTable { db, table } => drop_table(alloc, cat, bars, db, table),
         Call::GetTables { db, pattern } => get_tables(alloc, cat, db, pattern),
         Call::GetAllTables { db } => get_all_tables(alloc, cat, db),
         Call::GetTable { db, table } => get_table(alloc, cat, db, table),
         Call::GetTableReq { db, table } => get_table_req(alloc, cat, db, table),
         Call::GetTableObjectsByName { db, tables } => get_tables_named(alloc, cat, db, tables),
         Call::AlterTable { db, table, new } => {
-            decide_alter_table(alloc, cat, bars, db, table, new, moment, next)
+            alter_table(alloc, cat, bars, db, table, new, moment)
         }
         Call::GetFields { db, table } => get_fields(alloc, cat, db, table),
         Call::GetSchema { db, table } => get_schema(alloc, cat, db, table),

@@ -1,17 +1,17 @@
 -- What is decided of a call that adds partitions, by what is decided in a table that was found.
-use Rattle.std.proofs.Common.{◌≡◌, ℕ, Bool, true, false, not, List, [], ◌∷◌, Option, Some, is_some, sym, ap, subst, ◌∙◌}
+use Rattle.std.proofs.Common.{◌≡◌, ℕ, Bool, true, false, not, List, [], ◌∷◌, Option, Some, sym, ap, subst, ◌∙◌}
 use Rattle.std.specs.Prelude.{slice_get}
 use Rattle.cat_types.specs.declared.arguments.PartArg.{PartArg}
 use Rattle.cat_types.specs.declared.changes.Change.{Change}
 use Rattle.cat_types.specs.declared.changes.EventKind.TheVariants as kind
 use Rattle.cat_types.specs.declared.replies.Reply.{Reply}
 use Rattle.cat_values.specs.Names.{lower}
-use Rattle.cat_objects.specs.Catalogue.{Catalogue, at_name, database, has_database, has_table, table, tables_of}
+use Rattle.cat_objects.specs.Catalogue.{Catalogue, at_name, database, table}
 use Rattle.cat_objects.specs.Parts.{PartList}
 use Rattle.cat_objects.specs.declared.held.HeldDb.{HeldDb}
 use Rattle.cat_objects.specs.declared.held.HeldTable.{HeldTable}
 use Rattle.rulings.specs.Rules.{Rule, first_broken}
-use Rattle.rulings.specs.Changes.{born_of, if_any, table_born}
+use Rattle.rulings.specs.Changes.{born_of, if_any, in_table, table_born}
 use Rattle.rulings.specs.Bars.{is_replica}
 use Rattle.rulings.specs.Decisions.{Decides, decided_by}
 use Rattle.part_rules.specs.PartChanges.{add_list_rules, add_partitions_rules, added, added_as, append_partition_rules, appended, appended_as, count_added, each_added_rules, list_change, list_told, new_part_rules, ops_under, partition_appended, partitions_added, parts_put}
@@ -21,9 +21,9 @@ use Rattle.rulings.specs.declared.decided.Decided.{Decided}
 use Rattle.part_rules.specs.declared.part_adds.Told.{Told}
 use Rattle.part_rules.specs.declared.part_adds.Told.TheVariants as told
 use Rattle.rulings.specs.declared.refusal.Refusal.{Refusal}
-use Rattle.rulings.specs.declared.refusal.Refusal.TheVariants.{InvalidObject, IsReplica}
+use Rattle.rulings.specs.declared.refusal.Refusal.TheVariants.{InvalidObject}
 use Rattle.kept_records.specs.Partitions.{appended_part}
-use Rattle.rulings.proofs.Rules.{passed}
+use Rattle.rulings.proofs.Rules.{in_there, passed, table_found}
 
 -- the change that adds partitions under a table of this name and born
 abbrev pub adds_under : List ℕ → ℕ → List ℕ → ℕ → PartList → Option Change
@@ -36,14 +36,11 @@ decided_same o p due made result reply answer rules change same told_so =
 
 module _ (cat : Catalogue) (bars : Bars) (db name : List ℕ) (within : HeldDb) (held : HeldTable) (there : database cat db ≡ Some within) (free : is_replica bars db ≡ false) (inside : at_name name within.tables ≡ Some held) where
   found : table cat db name ≡ Some held
-  found = ap (λ (o : Option HeldDb). at_name name (tables_of o)) there ∙ inside
+  found = table_found cat bars db name within held there inside
 
   -- three rules that aren't broken in a table that is there
-  in_this : (others : List Rule) → first_broken ((not (has_database cat db), InvalidObject) ∷ (is_replica bars db, IsReplica) ∷ (not (has_table cat db name), InvalidObject) ∷ others) ≡ first_broken others
-  in_this others =
-      passed (not (has_database cat db)) InvalidObject ((is_replica bars db, IsReplica) ∷ (not (has_table cat db name), InvalidObject) ∷ others) (ap (λ (o : Option HeldDb). not (is_some o)) there)
-      ∙ passed (is_replica bars db) IsReplica ((not (has_table cat db name), InvalidObject) ∷ others) free
-      ∙ passed (not (has_table cat db name)) InvalidObject others (ap (λ (o : Option HeldTable). not (is_some o)) found)
+  in_this : (others : List Rule) → first_broken (in_table InvalidObject cat bars db name others) ≡ first_broken others
+  in_this others = in_there cat bars db name within held there inside InvalidObject others free
 
   put_is : (parts : PartList) → parts_put kind.AddPartition cat db name parts ≡ adds_under db within.born name held.born parts
   put_is parts =

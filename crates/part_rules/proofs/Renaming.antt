@@ -8,7 +8,7 @@ use Rattle.cat_types.specs.declared.changes.Op.{Op}
 use Rattle.cat_types.specs.declared.changes.Op.TheVariants.{MovePart, PutPart}
 use Rattle.cat_types.specs.declared.replies.Reply.TheVariants.{Nothing}
 use Rattle.cat_values.specs.declared.records.PartRec.{PartRec}
-use Rattle.cat_objects.specs.Catalogue.{Catalogue, at_name, database, has_database, has_table, parts_of, table, tables_of}
+use Rattle.cat_objects.specs.Catalogue.{Catalogue, at_name, database, parts_of, table}
 use Rattle.cat_objects.specs.Parts.{at_values}
 use Rattle.cat_objects.specs.declared.held.HeldDb.{HeldDb}
 use Rattle.cat_objects.specs.declared.held.HeldTable.{HeldTable}
@@ -22,9 +22,9 @@ use Rattle.rulings.specs.declared.bars.Bars.{Bars}
 use Rattle.rulings.specs.declared.decided.Decided.{Decided}
 use Rattle.rulings.specs.declared.decided.Decided.TheVariants as decided
 use Rattle.rulings.specs.declared.refusal.Refusal.{Refusal}
-use Rattle.rulings.specs.declared.refusal.Refusal.TheVariants.{InvalidOperation, IsReplica}
+use Rattle.rulings.specs.declared.refusal.Refusal.TheVariants.{InvalidOperation}
 use Rattle.kept_records.specs.Partitions.{altered_part}
-use Rattle.rulings.proofs.Rules.{passed}
+use Rattle.rulings.proofs.Rules.{in_there, passed, table_found}
 
 -- a change without a result is told as it is made
 pub told_changed : {E : Type 0} (made : Result Change E) (due : Change) (answer : Decided) → IfOk made (λ change. change ≡ due) → IfOk made (λ change. answer ≡ decided.Change change Nothing) → OnErr made (answer ≡ decided.NoMemory) → Decides (accepted (Some due) Nothing) answer
@@ -34,14 +34,11 @@ told_changed (Err e) due answer is tells fails = subst (λ (a : Decided). Decide
 
 module _ (cat : Catalogue) (bars : Bars) (db name : List ℕ) (within : HeldDb) (held : HeldTable) (there : database cat db ≡ Some within) (free : is_replica bars db ≡ false) (inside : at_name name within.tables ≡ Some held) where
   found : table cat db name ≡ Some held
-  found = ap (λ (o : Option HeldDb). at_name name (tables_of o)) there ∙ inside
+  found = table_found cat bars db name within held there inside
 
-  -- in a table that is there the first three rules aren't broken
+  -- three rules that aren't broken in a table that is there
   in_this : (others : List Rule) → first_broken (in_table InvalidOperation cat bars db name others) ≡ first_broken others
-  in_this others =
-      passed (not (has_database cat db)) InvalidOperation ((is_replica bars db, IsReplica) ∷ (not (has_table cat db name), InvalidOperation) ∷ others) (ap (λ (o : Option HeldDb). not (is_some o)) there)
-      ∙ passed (is_replica bars db) IsReplica ((not (has_table cat db name), InvalidOperation) ∷ others) free
-      ∙ passed (not (has_table cat db name)) InvalidOperation others (ap (λ (o : Option HeldTable). not (is_some o)) found)
+  in_this others = in_there cat bars db name within held there inside InvalidOperation others free
 
   -- ---- altering a list
 

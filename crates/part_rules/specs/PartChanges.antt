@@ -1,49 +1,33 @@
 -- The calls that add, drop, alter and rename partitions: their rules, what they change, and what they result in.
-use Rattle.std.specs.Prelude.{ℕ, ◌+◌, nat_le, Bool, true, false, not, ◌&&◌, ◌||◌, List, [], ◌∷◌, ◌++◌, length, map, Option, None, Some, is_some, pos, if◌then◌else◌}
+use Rattle.std.specs.Prelude.{ℕ, nat_le, Bool, false, not, ◌&&◌, List, [], ◌∷◌, length, Option, None, Some, is_some, if◌then◌else◌, ◌++◌, map, true, pos, ◌+◌, ◌||◌}
 use Rattle.std.specs.Cmp.Lexicographic.{pointwise}
 use Rattle.std.specs.List.{list_any}
 use Rattle.std.specs.Str.{bytes_eq}
-use Rattle.cat_values.specs.Names.{lower}
-use Rattle.cat_values.specs.declared.records.PartRec.{PartRec}
+use Rattle.cat_objects.specs.Catalogue.{Catalogue, table, part, parts_of, has_part}
+use Rattle.cat_objects.specs.Parts.{PartList, at_values, are_values}
+use Rattle.cat_objects.specs.declared.held.HeldTable.{HeldTable}
 use Rattle.cat_types.specs.declared.arguments.PartArg.{PartArg}
 use Rattle.cat_types.specs.declared.changes.Change.{Change}
-use Rattle.cat_types.specs.declared.changes.EventKind.{EventKind}
 use Rattle.cat_types.specs.declared.changes.EventKind.TheVariants as kind
-use Rattle.cat_types.specs.declared.changes.Op.{Op}
+use Rattle.cat_types.specs.declared.changes.EventKind.{EventKind}
 use Rattle.cat_types.specs.declared.changes.Op.TheVariants.{DropPart, MovePart, PutPart}
+use Rattle.cat_types.specs.declared.changes.Op.{Op}
+use Rattle.cat_types.specs.declared.replies.Reply.TheVariants.{Nothing, Parts, Number}
 use Rattle.cat_types.specs.declared.replies.Reply.{Reply}
-use Rattle.cat_types.specs.declared.replies.Reply.TheVariants.{Nothing, Number, Parts}
-use Rattle.cat_objects.specs.Catalogue.{Catalogue, database, has_database, has_part, has_table, part, parts_of, table}
-use Rattle.cat_objects.specs.Changes.{can_hold, has_operation}
-use Rattle.cat_objects.specs.Parts.{PartList, are_values, at_values}
-use Rattle.cat_objects.specs.declared.held.HeldTable.{HeldTable}
-use Rattle.rulings.specs.Rules.{Rule}
-use Rattle.rulings.specs.Changes.{born_of, table_born}
-use Rattle.rulings.specs.Bars.{is_dumping, is_replica}
-use Rattle.rulings.specs.Names.{kept_name, names_database, names_table}
-use Rattle.rulings.specs.Meant.{Meaning, holds_meant, may_mean, meant_values, stored_values, table_keys}
-use Rattle.rulings.specs.Listed.{all_named}
-use Rattle.rulings.specs.declared.bars.Bars.{Bars}
+use Rattle.cat_values.specs.Names.{lower}
+use Rattle.cat_values.specs.declared.records.PartRec.{PartRec}
+use Rattle.kept_records.specs.Partitions.{altered_part, appended_part, made_part}
+use Rattle.part_rules.specs.declared.part_adds.Told.TheVariants as told
 use Rattle.part_rules.specs.declared.part_adds.Told.{Told}
 use Rattle.part_rules.specs.declared.part_site.Site.{Site}
-use Rattle.part_rules.specs.declared.part_adds.Told.TheVariants as told
-use Rattle.rulings.specs.declared.refusal.Refusal.{Refusal}
+use Rattle.rulings.specs.Bars.{is_replica, is_dumping}
+use Rattle.rulings.specs.Changes.{table_born, in_table, part_change, if_any, may_have}
+use Rattle.rulings.specs.Listed.{all_named}
+use Rattle.rulings.specs.Meant.{Meaning, stored_values, table_keys, meant_values, may_mean, holds_meant}
+use Rattle.rulings.specs.Names.{kept_name, names_database, names_table}
+use Rattle.rulings.specs.Rules.{Rule}
+use Rattle.rulings.specs.declared.bars.Bars.{Bars}
 use Rattle.rulings.specs.declared.refusal.Refusal.TheVariants.{AlreadyExists, InvalidObject, InvalidOperation, IsReplica, NoSuchObject}
-use Rattle.kept_records.specs.Partitions.{altered_part, appended_part, made_part}
-
--- ---- all changes of partitions
-
--- a table whose partitions are changed stands in a database that is there and no replica, and is there; behind these come a call's other rules
-abbrev pub in_table : Refusal → Catalogue → Bars → List ℕ → List ℕ → List Rule → List Rule
-in_table absent cat bars db name others = (not (has_database cat db), absent) ∷ (is_replica bars db, IsReplica) ∷ (not (has_table cat db name), absent) ∷ others
-
--- the change of a table's partitions by these operations
-abbrev pub part_change : EventKind → Catalogue → List ℕ → List Op → Change
-part_change kind cat db ops = record { kind = kind; db = db; db_born = born_of (database cat db); ops = ops }
-
--- a change, where it has an operation
-abbrev pub if_any : Change → Option Change
-if_any change = if has_operation change then Some change else None
 
 -- ---- adding
 
@@ -54,11 +38,6 @@ is_taken held earlier values = list_any (are_values values) earlier || is_some (
 -- a table has a million partitions, those that the same call adds earlier among them
 abbrev pub is_full : Option HeldTable → List (List (List ℕ)) → Bool
 is_full held earlier = nat_le 1000000 (length earlier + length (parts_of held))
-
--- a table can have a partition with these values
-abbrev pub may_have : Option HeldTable → List (List ℕ) → Bool
-may_have None values = false
-may_have (Some held) values = can_hold held.born values (Some held)
 
 -- a partition that is added has values that the table can have and that are free, and the table has fewer than a million
 abbrev pub new_part_rules : Option HeldTable → List (List ℕ) → List Rule

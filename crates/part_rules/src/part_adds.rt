@@ -11,30 +11,32 @@ ghost use Rattle.rulings.specs.Rules.{first_broken};
 ghost use Rattle.rulings.specs.declared.refusal.Refusal.{Refusal};
 ghost use Rattle.kept_records.specs.Partitions.{appended_part};
 
-use crate::decision::{PARTITION_LIMIT, refused};
-use crate::meant::{Meant, StoredValues};
 use crate::new_parts::NewParts;
-use crate::part_reads::push_part;
-use crate::part_site::{Barred, Site};
-use crate::part_values::may_have;
-use crate::{Bars, Cat, Decided, Refusal};
+use crate::part_site::Site;
+use cat_objects::Cat;
 use cat_types::{
     EventKind, ListOf, LowerName, NoMemory, PartArg, PartArgs, Parts, Reply, Text, Texts,
 };
 use kept_records::{appended_part, made_part};
+use rulings::{Barred, Bars, Decided, Meant, Refusal, StoredValues, may_have, push_part, refused};
 use std::alloc::Global;
 use std::slice;
 
-// What is told of partitions that were added.
+/// How many partitions a table has at most.
+pub const PARTITION_LIMIT: u64 = 1_000_000;
+
+/// What is told of partitions that were added.
 #[derive(Clone, Copy)]
-pub(crate) enum Told {
+pub enum Told {
+    /// All of them, with their names.
     All,
+    /// How many they are.
     Count,
     Nothing,
 }
 
-// Appending the partition that a call means, stored as its table is.
-pub(crate) fn append_partition(
+/// Appending the partition that a call means, stored as its table is.
+pub fn append_partition(
     alloc: Global,
     cat: &Cat,
     bars: &Bars,
@@ -98,16 +100,16 @@ fn append_meant(
 
 // Whether and how partitions of a list are passed over or need the names of their table.
 #[derive(Clone, Copy)]
-pub(crate) struct Terms {
+struct Terms {
     // Each partition names its database and its table; else it names no others.
-    pub(crate) needs_names: bool,
+    needs_names: bool,
     // Partitions that are there are passed over.
-    pub(crate) passes: bool,
-    pub(crate) told: Told,
+    passes: bool,
+    told: Told,
 }
 
 // Adding the partitions of a list to the table of these names.
-pub(crate) fn add_list(
+fn add_list(
     alloc: Global,
     cat: &Cat,
     bars: &Bars,
@@ -149,14 +151,8 @@ pub(crate) fn add_list(
     site.add_all(alloc, parts, terms, moment)
 }
 
-// Adding a partition to the table that it names.
-pub(crate) fn add_partition(
-    alloc: Global,
-    cat: &Cat,
-    bars: &Bars,
-    part: &PartArg,
-    moment: u64,
-) -> Decided
+/// Adding a partition to the table that it names.
+pub fn add_partition(alloc: Global, cat: &Cat, bars: &Bars, part: &PartArg, moment: u64) -> Decided
     ensures { Decides (decided_by (first_broken (add_list_rules true false cat.now bars.now part.now.db part.now.table (part.now ∷ []))) (list_change cat.now part.now.db part.now.table (part.now ∷ []) moment) (list_told Told.All cat.now part.now.db part.now.table (part.now ∷ []) moment)) result }
 {
     let terms = Terms {
@@ -176,8 +172,8 @@ pub(crate) fn add_partition(
     )
 }
 
-// Adding partitions by a request.
-pub(crate) fn add_requested(
+/// Adding partitions by a request.
+pub fn add_requested(
     alloc: Global,
     cat: &Cat,
     bars: &Bars,
@@ -205,8 +201,8 @@ fn told_if(wanted: bool) -> Told
     if wanted { Told::All } else { Told::Nothing }
 }
 
-// Adding partitions without a table of their own: to the one that the first of them names.
-pub(crate) fn add_partitions(
+/// Adding partitions without a table of their own: to the one that the first of them names.
+pub fn add_partitions(
     alloc: Global,
     cat: &Cat,
     bars: &Bars,

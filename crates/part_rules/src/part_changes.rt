@@ -11,19 +11,18 @@ ghost use Rattle.rulings.specs.Meant.{meaning, meant_values};
 ghost use Rattle.rulings.specs.Rules.{first_broken};
 ghost use Rattle.rulings.specs.declared.refusal.Refusal.{Refusal};
 
-use crate::databases::changed;
-use crate::decision::{one_op, refused};
-use crate::meant::{Meant, StoredValues};
 use crate::new_parts::NewParts;
-use crate::part_site::{Barred, Site};
-use crate::part_values::may_have;
-use crate::{Bars, Cat, Decided, HeldTable, Refusal};
+use crate::part_site::Site;
+use cat_objects::{Cat, HeldTable};
 use cat_types::{Change, EventKind, LowerName, NoMemory, PartArg, PartArgs, Reply, Text, Texts};
 use kept_records::altered_part;
+use rulings::{
+    Barred, Bars, Decided, Meant, Refusal, StoredValues, changed, flagged, may_have, refused,
+};
 use std::alloc::Global;
 
-// Dropping the partition that a call means.
-pub(crate) fn drop_partition(
+/// Dropping the partition that a call means.
+pub fn drop_partition(
     alloc: Global,
     cat: &Cat,
     bars: &Bars,
@@ -80,8 +79,8 @@ fn drop_meant(
     }
 }
 
-// Altering a partition.
-pub(crate) fn alter_partition(
+/// Altering a partition.
+pub fn alter_partition(
     alloc: Global,
     cat: &Cat,
     bars: &Bars,
@@ -140,8 +139,8 @@ fn alter_part(
     changed(site.alters(alloc, values, old, &new.rec, moment))
 }
 
-// Altering the partitions of a list.
-pub(crate) fn alter_partitions(
+/// Altering the partitions of a list.
+pub fn alter_partitions(
     alloc: Global,
     cat: &Cat,
     bars: &Bars,
@@ -256,8 +255,8 @@ fn alter_one(
     Ok(())
 }
 
-// Renaming a partition.
-pub(crate) fn rename_partition(
+/// Renaming a partition.
+pub fn rename_partition(
     alloc: Global,
     cat: &Cat,
     bars: &Bars,

@@ -10,25 +10,20 @@ ghost use Rattle.part_rules.specs.Partitions.{begin_with, fits_value, get_partit
 ghost use Rattle.rulings.specs.Meant.{key_names, meaning};
 ghost use Rattle.rulings.specs.Rules.{first_broken};
 
-use crate::decision::refused;
-use crate::meant::{Meant, named_values};
-use crate::{Cat, Decided, HeldTable, Refusal};
+use cat_objects::{Cat, HeldTable};
 use cat_types::{
     Columns, CopyParts, ListOf, LowerName, NamedPart, NoMemory, PartRec, Parts, Reply, Text, Texts,
     TryCopy,
 };
 use part_names::join_name;
+use rulings::{
+    Decided, Meant, Refusal, has_reached, named_values, push_part, refused, told_names, told_parts,
+};
 use std::alloc::Global;
 use std::collections::BTreeSet;
 
-// The partition that a call means.
-pub(crate) fn get_partition(
-    alloc: Global,
-    cat: &Cat,
-    db: &Text,
-    name: &Text,
-    meant: &Meant<'_>,
-) -> Decided
+/// The partition that a call means.
+pub fn get_partition(alloc: Global, cat: &Cat, db: &Text, name: &Text, meant: &Meant<'_>) -> Decided
     ensures { Decides (decided_by (first_broken (get_partition_rules cat.now (lower db.now) (lower name.now) (meaning meant.now))) None (meant_as cat.now (lower db.now) (lower name.now) (meaning meant.now))) result }
 {
     let Ok(db) = LowerName::of(alloc, db) else {
@@ -68,8 +63,8 @@ fn one_part(alloc: Global, db: &Text, name: &Text, values: &Texts, rec: &PartRec
     }
 }
 
-// The first `max` partitions of a table.
-pub(crate) fn get_partitions(alloc: Global, cat: &Cat, db: &Text, name: &Text, max: i16) -> Decided
+/// The first `max` partitions of a table.
+pub fn get_partitions(alloc: Global, cat: &Cat, db: &Text, name: &Text, max: i16) -> Decided
     ensures { Decides (decided_by (first_broken (list_partitions_rules cat.now (lower db.now) (lower name.now))) None (parts_listed cat.now (lower db.now) (lower name.now) [] max)) result }
 {
     let Ok(db) = LowerName::of(alloc, db) else {
@@ -91,14 +86,8 @@ pub(crate) fn get_partitions(alloc: Global, cat: &Cat, db: &Text, name: &Text, m
     ))
 }
 
-// The names of the first `max` partitions of a table.
-pub(crate) fn get_partition_names(
-    alloc: Global,
-    cat: &Cat,
-    db: &Text,
-    name: &Text,
-    max: i16,
-) -> Decided
+/// The names of the first `max` partitions of a table.
+pub fn get_partition_names(alloc: Global, cat: &Cat, db: &Text, name: &Text, max: i16) -> Decided
     ensures { Decides (decided_by (first_broken (list_partitions_rules cat.now (lower db.now) (lower name.now))) None (names_listed cat.now (lower db.now) (lower name.now) [] max)) result }
 {
     let Ok(db) = LowerName::of(alloc, db) else {
@@ -113,8 +102,8 @@ pub(crate) fn get_partition_names(
     told_names(list_names(alloc, held, &ListOf::new(alloc), max))
 }
 
-// The first `max` partitions whose values begin so.
-pub(crate) fn get_partitions_ps(
+/// The first `max` partitions whose values begin so.
+pub fn get_partitions_ps(
     alloc: Global,
     cat: &Cat,
     db: &Text,
@@ -139,8 +128,8 @@ pub(crate) fn get_partitions_ps(
     told_parts(list_parts(alloc, held, db.as_text(), name.as_text(), wanted, max))
 }
 
-// The names of the first `max` partitions whose values begin so.
-pub(crate) fn get_partition_names_ps(
+/// The names of the first `max` partitions whose values begin so.
+pub fn get_partition_names_ps(
     alloc: Global,
     cat: &Cat,
     db: &Text,
@@ -239,8 +228,8 @@ fn fits_value(wanted: &Text, value: &Text) -> bool
     wanted.is_empty() || *wanted == *value
 }
 
-// Those of the named partitions that there are.
-pub(crate) fn get_partitions_by_names(
+/// Those of the named partitions that there are.
+pub fn get_partitions_by_names(
     alloc: Global,
     cat: &Cat,
     db: &Text,

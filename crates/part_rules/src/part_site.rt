@@ -3,15 +3,13 @@
 ghost use Rattle.std.specs.Prelude.{◌≡◌, ◌∷◌, [], IfOk};
 ghost use Rattle.part_rules.specs.PartChanges.{ops_under};
 ghost use Rattle.rulings.specs.Meant.{seen_values};
-ghost use Rattle.part_rules.specs.declared.part_site.Barred.TheVariants.{NoMemory};
 ghost use Rattle.kept_records.specs.Partitions.{altered_part};
 
-use crate::decision::one_op;
-use crate::meant::StoredValues;
 use crate::new_parts::NewParts;
-use crate::{HeldTable, Refusal};
+use cat_objects::HeldTable;
 use cat_types::{Change, CopyParts, EventKind, NoMemory, Op, PartRec, Text, TryCopy};
 use kept_records::altered_part;
+use rulings::{StoredValues, one_op};
 use std::alloc::Global;
 
 // A table whose partitions are changed, and its database. Both names are in lower case.

@@ -7,7 +7,7 @@ use crate::Refusal;
 use cat_types::NoMemory;
 
 /// Why a call isn't done.
-#[derive(Clone, Copy)]
+#[derive(Drop)]
 pub enum Barred {
     Refused(Refusal),
     NoMemory,

@@ -12,9 +12,10 @@ use std::alloc::Global;
 pub fn refused(alloc: Global, refusal: Refusal) -> Decided
     ensures { Decides (refused refusal) result }
 {
-    match Text::of(alloc, refusal.text()) {
-        Ok(text) => Decided::Reply(Reply::Refused(refusal.number(), text)),
-        Err(_) => Decided::NoMemory,
+    let number = refusal.number();
+    match refusal.text(alloc) {
+        Ok(text) => Decided::Reply(Reply::Refused(number, text)),
+        Err(NoMemory) => Decided::NoMemory,
     }
 }
 

@@ -4,14 +4,13 @@ use Rattle.std.proofs.lemmas.Map.Text.{is_eq-slice_cmp}
 use Rattle.std.specs.BTreeMap.{is_at}
 use Rattle.std.specs.Cmp.Lexicographic.{slice_cmp, nat_list_cmp_total}
 use Rattle.std.specs.List.{list_any}
-use Rattle.std.specs.Ordering.{is_eq, nat_cmp, ordering_reverse}
+use Rattle.std.specs.Ordering.{nat_cmp}
 use Rattle.std.specs.Str.{bytes_eq}
-use Rattle.std.specs.declared.cmp.Ordering.{Ordering}
-use Rattle.std.specs.declared.cmp.Ordering.TheVariants.{Less, Equal, Greater}
 use Rattle.cat_types.specs.declared.named.NamedTable.{NamedTable}
 use Rattle.cat_objects.specs.Catalogue.{Catalogue, table}
 use Rattle.table_rules.specs.Tables.{first_asked, table_then, tables_there}
 use Rattle.cat_objects.specs.declared.held.HeldTable.{HeldTable}
+use Rattle.rulings.proofs.Sets.{found_or, turned_eq}
 
 -- the same names stand in both lists
 abbrev pub SameNames : List (List ℕ) → List (List ℕ) → Type 0

@@ -13,7 +13,7 @@ use Rattle.cat_values.specs.declared.records.TableRec.{TableRec}
 use Rattle.cat_values.specs.declared.storage.Column.{Column}
 use Rattle.cat_values.specs.Names.{is_object_name}
 use Rattle.cat_objects.specs.Catalogue.{Catalogue, at_name, database, has_database, has_table, table, tables_of}
-use Rattle.cat_objects.specs.Changes.{fits_op, fits_over, is_lawful_table, is_table_born, takes_call}
+use Rattle.cat_objects.specs.Changes.{are_some, fits_op, has_operation, fits_over, is_lawful_table, is_table_born, takes_call}
 use Rattle.rulings.specs.Changes.{born_of, table_born}
 use Rattle.rulings.specs.Names.{is_named, kept_name, names_another, names_database}
 use Rattle.rulings.specs.Bars.{is_dumping, is_replica}
@@ -27,7 +27,7 @@ use Rattle.cat_objects.specs.declared.held.HeldTable.{HeldTable}
 use Rattle.rulings.specs.declared.refusal.Refusal.{Refusal}
 use Rattle.rulings.specs.declared.refusal.Refusal.TheVariants.{InvalidOperation, IsReplica}
 use Rattle.kept_records.specs.Tables.{altered_table, have_same_keys, lower_columns, made_table}
-use Rattle.rulings.proofs.Rules.{both, both_last, call_taken, fits_there, holds, kept_named, unbroken}
+use Rattle.rulings.proofs.Rules.{both, both_last, call_taken, fits_there, holds, kept_named, passed, unbroken}
 
 -- ---- altering
 
@@ -190,3 +190,18 @@ alter_taken_by cat bars db name new moment next (Some held) is none room =
 -- what an accepted altering of a table changes can be taken
 pub alter_table_taken : (cat : Catalogue) (bars : Bars) (db name : List ℕ) (new : TableArg) (moment next : ℕ) → first_broken (alter_table_rules cat bars db name new) ≡ None → nat_le next 9223372036854775807 ≡ true → takes_call cat next (table_altered cat db name new moment) ≡ true
 alter_table_taken cat bars db name new moment next none room = alter_taken_by cat bars db name new moment next (table cat db name) refl none room
+
+-- ---- an altering has an operation
+
+-- a table that is there is put or moved
+either_some : (b : Bool) (first last : Op) → are_some (if b then first ∷ [] else last ∷ []) ≡ true
+either_some true first last = refl
+either_some false first last = refl
+
+put_some : (held : Option HeldTable) (name : List ℕ) (new : TableArg) (moment : ℕ) → not (is_some held) ≡ false → are_some (table_put held name new moment) ≡ true
+put_some None name new moment there = absurd cc
+put_some (Some held) name new moment there = either_some (renames new name) _ _
+
+-- what an accepted altering of a table changes has an operation
+pub alter_table_makes : (cat : Catalogue) (bars : Bars) (db name : List ℕ) (new : TableArg) (moment : ℕ) → first_broken (alter_table_rules cat bars db name new) ≡ None → has_operation (table_altered cat db name new moment) ≡ true
+alter_table_makes cat bars db name new moment none = put_some (table cat db name) name new moment (unbroken (alter_table_rules cat bars db name new) none).1.1.0

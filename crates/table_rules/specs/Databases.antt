@@ -1,61 +1,28 @@
 -- The rules of calls on databases, what they change, and what they result in.
-use Rattle.std.specs.Prelude.{ℕ, nat_lt, nat_le, Bool, false, not, ◌&&◌, List, [], ◌∷◌, length, Option, None, Some, is_some, codes, decimal, filter, if◌then◌else◌}
+use Rattle.std.specs.Prelude.{ℕ, nat_lt, nat_le, Bool, not, ◌&&◌, List, [], ◌∷◌, length, Option, None, Some, codes, decimal, filter}
 use Rattle.std.specs.BTreeMap.{insert_entry}
 use Rattle.std.specs.Cmp.Lexicographic.{slice_cmp}
-use Rattle.std.specs.List.{list_any}
 use Rattle.std.specs.Map.{remove_entry}
 use Rattle.std.specs.Ordering.{nat_cmp}
 use Rattle.std.specs.Str.{bytes_eq}
+use Rattle.cat_objects.specs.Catalogue.{Catalogue, database, has_database, is_name, tables_of}
+use Rattle.cat_objects.specs.declared.held.HeldDb.{HeldDb}
 use Rattle.cat_rules.specs.Patterns.{does_match}
-use Rattle.cat_values.specs.Names.{is_object_name, lower}
 use Rattle.cat_types.specs.declared.arguments.DbArg.{DbArg}
 use Rattle.cat_types.specs.declared.changes.Change.{Change}
 use Rattle.cat_types.specs.declared.changes.EventKind.TheVariants as kind
 use Rattle.cat_types.specs.declared.changes.Op.TheVariants.{DropDb, PutDb}
-use Rattle.cat_types.specs.declared.replies.Reply.{Reply}
 use Rattle.cat_types.specs.declared.replies.Reply.TheVariants.{Db, Nothing}
+use Rattle.cat_types.specs.declared.replies.Reply.{Reply}
+use Rattle.cat_values.specs.Names.{lower}
 use Rattle.cat_values.specs.declared.records.DbRec.{DbRec}
-use Rattle.cat_objects.specs.Catalogue.{Catalogue, database, has_database, is_name, tables_of}
+use Rattle.rulings.specs.Bars.{position, is_replica, is_loading}
+use Rattle.rulings.specs.Changes.{born_of}
+use Rattle.rulings.specs.Names.{is_named, kept_name, names_another}
+use Rattle.rulings.specs.Rules.{Rule}
 use Rattle.rulings.specs.declared.bars.Bars.{Bars}
 use Rattle.rulings.specs.declared.bars.ReplicaAt.{ReplicaAt}
-use Rattle.cat_objects.specs.declared.held.HeldDb.{HeldDb}
-use Rattle.rulings.specs.declared.refusal.Refusal.{Refusal}
 use Rattle.rulings.specs.declared.refusal.Refusal.TheVariants.{AlreadyExists, InvalidObject, InvalidOperation, InvalidRequest, IsReplica, NoSuchObject}
-
--- a rule of a call: whether it is broken, and what the call is refused for then
-abbrev pub Rule : Type 0
-Rule = Bool × Refusal
-
--- ---- handed-in names
-
--- a name is handed in, and is one that an object may have
-abbrev pub is_named : Option (List ℕ) → Bool
-is_named None = false
-is_named (Some name) = is_object_name name
-
--- the name that was handed in, as it is kept
-abbrev pub kept_name : Option (List ℕ) → List ℕ
-kept_name None = []
-kept_name (Some name) = lower name
-
--- a name is handed in, and it isn't this one
-abbrev pub names_another : Option (List ℕ) → List ℕ → Bool
-names_another None name = false
-names_another (Some other) name = not (bytes_eq (lower other) name)
-
--- ---- bars
-
--- whether a database is a replica, and its position where it is live
-abbrev pub position : List ReplicaAt → List ℕ → Option (Option ℕ)
-position [] name = None
-position (replica ∷ replicas) name = if bytes_eq replica.db name then Some replica.at else position replicas name
-
-abbrev pub is_replica : Bars → List ℕ → Bool
-is_replica bars name = is_some (position bars.replicas name)
-
--- a load of the database is open
-abbrev pub is_loading : Bars → List ℕ → Bool
-is_loading bars name = list_any (bytes_eq name) bars.loading
 
 -- ---- records of databases
 
@@ -117,11 +84,6 @@ drop_database_rules cat bars name cascade =
     ∷ (is_loading bars name, InvalidOperation)
     ∷ (has_tables (database cat name) && not cascade, InvalidOperation)
     ∷ []
-
--- the born of a database that is there
-abbrev pub born_of : Option HeldDb → ℕ
-born_of None = 0
-born_of (Some held) = held.born
 
 -- the change that drops a database
 abbrev pub database_dropped : Catalogue → List ℕ → Change

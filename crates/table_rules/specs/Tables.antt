@@ -1,43 +1,34 @@
 -- The rules of calls on tables, what they change, and what they result in.
-use Rattle.std.specs.Prelude.{ℕ, nat_le, Bool, false, not, ◌&&◌, List, [], ◌∷◌, ◌++◌, length, map, Option, None, Some, if◌then◌else◌}
+use Rattle.std.specs.Prelude.{ℕ, nat_le, Bool, false, not, ◌&&◌, List, [], ◌∷◌, length, Option, None, Some, if◌then◌else◌, ◌++◌, map}
 use Rattle.std.specs.List.{list_any}
 use Rattle.std.specs.Map.{keys_of}
 use Rattle.std.specs.Str.{bytes_eq}
+use Rattle.cat_objects.specs.Catalogue.{Catalogue, database, has_database, tables_of, has_table, table}
+use Rattle.cat_objects.specs.declared.held.HeldTable.{HeldTable}
 use Rattle.cat_rules.specs.Tables.{do_fit_together}
-use Rattle.cat_values.specs.Names.{lower}
-use Rattle.cat_values.specs.declared.records.TableRec.{TableRec}
 use Rattle.cat_types.specs.declared.arguments.TableArg.{TableArg}
 use Rattle.cat_types.specs.declared.changes.Change.{Change}
 use Rattle.cat_types.specs.declared.changes.EventKind.TheVariants as kind
-use Rattle.cat_types.specs.declared.changes.Op.{Op}
 use Rattle.cat_types.specs.declared.changes.Op.TheVariants.{DropTable, MoveTable, PutTable}
+use Rattle.cat_types.specs.declared.changes.Op.{Op}
 use Rattle.cat_types.specs.declared.named.NamedTable.{NamedTable}
+use Rattle.cat_types.specs.declared.replies.Reply.TheVariants.{Nothing, Fields, Tables}
 use Rattle.cat_types.specs.declared.replies.Reply.{Reply}
-use Rattle.cat_types.specs.declared.replies.Reply.TheVariants.{Fields, Nothing, Tables}
-use Rattle.cat_objects.specs.Catalogue.{Catalogue, database, has_database, has_table, table, tables_of}
-use Rattle.rulings.specs.Rules.{Rule}
-use Rattle.rulings.specs.Changes.{born_of}
-use Rattle.rulings.specs.Names.{is_named, kept_name, names_another}
-use Rattle.rulings.specs.Bars.{is_replica}
-use Rattle.rulings.specs.declared.bars.Bars.{Bars}
-use Rattle.cat_objects.specs.declared.held.HeldTable.{HeldTable}
-use Rattle.rulings.specs.declared.refusal.Refusal.TheVariants.{AlreadyExists, InvalidObject, InvalidOperation, InvalidRequest, IsReplica, NoSuchObject}
+use Rattle.cat_values.specs.Names.{lower}
+use Rattle.cat_values.specs.declared.records.TableRec.{TableRec}
 use Rattle.kept_records.specs.Tables.{altered_table, have_same_keys, lower_columns, made_table}
-
--- a bootstrap dump of the database is open
-abbrev pub is_dumping : Bars → List ℕ → Bool
-is_dumping bars name = list_any (bytes_eq name) bars.dumping
+use Rattle.rulings.specs.Bars.{is_replica, is_dumping}
+use Rattle.rulings.specs.Changes.{born_of, table_born}
+use Rattle.rulings.specs.Names.{is_named, kept_name, names_another, names_database, names_table}
+use Rattle.rulings.specs.Rules.{Rule}
+use Rattle.rulings.specs.declared.bars.Bars.{Bars}
+use Rattle.rulings.specs.declared.refusal.Refusal.TheVariants.{AlreadyExists, InvalidObject, InvalidOperation, InvalidRequest, IsReplica, NoSuchObject}
 
 -- whether columns and keys, with their names in lower case, may stand in one table
 abbrev pub fits_columns : TableRec → Bool
 fits_columns rec = do_fit_together (lower_columns rec.sd.cols) (lower_columns rec.keys)
 
 -- ---- creating
-
--- a database is named, and it is there
-abbrev pub names_database : Catalogue → Option (List ℕ) → Bool
-names_database cat None = false
-names_database cat (Some name) = has_database cat (lower name)
 
 -- a table that is created stands in a database that is there and no replica; it has a lawful name, which is free, a storage, and columns and keys that fit together; and the database has fewer than a million tables
 abbrev pub create_table_rules : Catalogue → Bars → TableArg → List Rule
@@ -66,11 +57,6 @@ table_created cat new moment next = record {
 abbrev pub drop_table_rules : Catalogue → Bars → List ℕ → List ℕ → List Rule
 drop_table_rules cat bars db name =
     (not (has_database cat db), NoSuchObject) ∷ (is_replica bars db, IsReplica) ∷ (not (has_table cat db name), NoSuchObject) ∷ []
-
--- the born of a table that is there
-abbrev pub table_born : Option HeldTable → ℕ
-table_born None = 0
-table_born (Some held) = held.born
 
 -- the change that drops a table
 abbrev pub table_dropped : Catalogue → List ℕ → List ℕ → Change
@@ -119,12 +105,6 @@ table_altered cat db name new moment = record { kind = kind.AlterTable; db = db;
 abbrev pub get_table_rules : Catalogue → List ℕ → List ℕ → List Rule
 get_table_rules cat db name = (not (has_table cat db name), NoSuchObject) ∷ []
 
--- both names are handed in, and there is such a table
-abbrev pub names_table : Catalogue → Option (List ℕ) → Option (List ℕ) → Bool
-names_table cat None name = false
-names_table cat (Some db) None = false
-names_table cat (Some db) (Some name) = has_table cat (lower db) (lower name)
-
 abbrev pub get_table_req_rules : Catalogue → Option (List ℕ) → Option (List ℕ) → List Rule
 get_table_req_rules cat db name = (not (names_table cat db name), NoSuchObject) ∷ []
 
@@ -140,6 +120,12 @@ named_table db name rec = record { db = db; table = name; rec = rec }
 abbrev pub table_as : Option HeldTable → List ℕ → List ℕ → Reply
 table_as None db name = Nothing
 table_as (Some held) db name = Tables (named_table db name held.rec ∷ [])
+
+-- the table that was asked for by a request, where it is there
+abbrev pub requested_table : Catalogue → Option (List ℕ) → Option (List ℕ) → Reply
+requested_table cat None name = Nothing
+requested_table cat (Some db) None = Nothing
+requested_table cat (Some db) (Some name) = table_as (table cat (lower db) (lower name)) (lower db) (lower name)
 
 -- the names of all tables of a database, in their order
 abbrev pub table_names : Catalogue → List ℕ → List (List ℕ)

@@ -10,21 +10,24 @@ ghost use Rattle.rulings.specs.Names.{names_another};
 ghost use Rattle.rulings.specs.Decisions.{Decides, decided_by};
 ghost use Rattle.rulings.specs.Rules.{first_broken};
 
-use crate::decision::{DATABASE_LIMIT, one_op, refused};
 use crate::showing::{kept_record, shown_record};
-use crate::{Bars, Cat, Decided, HeldDb, Refusal, ReplicaAts};
+use cat_objects::{Cat, HeldDb};
 use cat_rules::{matches, object_name};
 use cat_types::{
     Change, DbArg, DbRec, EventKind, ListOf, LowerName, MapOf, NoMemory, Op, Reply, Text, Texts,
     TryCopy,
 };
+use rulings::{Bars, Decided, Refusal, ReplicaAts, changed, one_op, refused};
 use std::alloc::Global;
+
+/// How many databases a store has at most.
+pub const DATABASE_LIMIT: u64 = 1_000_000;
 
 /// The database that no call drops.
 const DEFAULT: &str = "default";
 
-// The names of all databases.
-pub(crate) fn get_all_databases(alloc: Global, cat: &Cat) -> Decided
+/// The names of all databases.
+pub fn get_all_databases(alloc: Global, cat: &Cat) -> Decided
     ensures { Decides (decided_by None None (Names (keys_of cat.now.databases))) result }
 {
     match cat.names(alloc) {
@@ -33,8 +36,8 @@ pub(crate) fn get_all_databases(alloc: Global, cat: &Cat) -> Decided
     }
 }
 
-// The names of the databases that a pattern asks for.
-pub(crate) fn get_databases(alloc: Global, cat: &Cat, pattern: &Text) -> Decided
+/// The names of the databases that a pattern asks for.
+pub fn get_databases(alloc: Global, cat: &Cat, pattern: &Text) -> Decided
     ensures { Decides (decided_by None None (Names (matching pattern.now (keys_of cat.now.databases)))) result }
 {
     match matching_names(alloc, pattern, cat.databases()) {
@@ -60,8 +63,8 @@ pub(crate) fn matching_names<V>(
     Ok(found)
 }
 
-// A database by its name.
-pub(crate) fn get_database(alloc: Global, cat: &Cat, bars: &Bars, name: &Text) -> Decided
+/// A database by its name.
+pub fn get_database(alloc: Global, cat: &Cat, bars: &Bars, name: &Text) -> Decided
     ensures { Decides (decided_by (first_broken (get_database_rules cat.now name.now)) None (shown_as (database cat.now (lower name.now)) bars.now.replicas (lower name.now))) result }
 {
     let Ok(name) = LowerName::of(alloc, name) else {
@@ -90,8 +93,8 @@ fn shown_database(
     Ok(Reply::Db(name, rec))
 }
 
-// Creating a database.
-pub(crate) fn create_database(alloc: Global, cat: &Cat, db: &DbArg, next: u64) -> Decided
+/// Creating a database.
+pub fn create_database(alloc: Global, cat: &Cat, db: &DbArg, next: u64) -> Decided
     ensures { Decides (decided_by (first_broken (create_database_rules cat.now db.now)) (Some (database_created db.now next)) Nothing) result }
 {
     let Some(name) = &db.name else {
@@ -112,14 +115,8 @@ pub(crate) fn create_database(alloc: Global, cat: &Cat, db: &DbArg, next: u64) -
     changed(record_put(alloc, EventKind::CreateDatabase, name, next, &db.rec))
 }
 
-// Dropping a database.
-pub(crate) fn drop_database(
-    alloc: Global,
-    cat: &Cat,
-    bars: &Bars,
-    name: &Text,
-    cascade: bool,
-) -> Decided
+/// Dropping a database.
+pub fn drop_database(alloc: Global, cat: &Cat, bars: &Bars, name: &Text, cascade: bool) -> Decided
     ensures { Decides (decided_by (first_broken (drop_database_rules cat.now bars.now (lower name.now) cascade)) (Some (database_dropped cat.now (lower name.now))) Nothing) result }
 {
     let Ok(name) = LowerName::of(alloc, name) else {
@@ -148,14 +145,8 @@ fn dropping(alloc: Global, name: LowerName<'_>, born: u64) -> Result<Change, NoM
     one_op(alloc, EventKind::DropDatabase, db, born, Op::DropDb)
 }
 
-// Altering a database.
-pub(crate) fn alter_database(
-    alloc: Global,
-    cat: &Cat,
-    bars: &Bars,
-    name: &Text,
-    db: &DbArg,
-) -> Decided
+/// Altering a database.
+pub fn alter_database(alloc: Global, cat: &Cat, bars: &Bars, name: &Text, db: &DbArg) -> Decided
     ensures { Decides (decided_by (first_broken (alter_database_rules cat.now bars.now (lower name.now) db.now)) (Some (database_altered cat.now (lower name.now) db.now)) Nothing) result }
 {
     let Ok(name) = LowerName::of(alloc, name) else {

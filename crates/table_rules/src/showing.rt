@@ -4,8 +4,8 @@ ghost use Rattle.std.specs.Prelude.{◌≡◌, IfOk, decimal};
 ghost use Rattle.table_rules.specs.Databases.{kept_record, placed_record, position_key, shown_record};
 ghost use Rattle.rulings.specs.Bars.{position};
 
-use crate::ReplicaAts;
 use cat_types::{DbRec, NoMemory, Text, TryCopy};
+use rulings::{ReplicaAts, position_of};
 use std::alloc::Global;
 
 // A record as it is kept.

@@ -3,28 +3,30 @@
 ghost use Rattle.std.specs.Prelude.{◌≡◌, ◌&&◌, [], ◌∷◌, nat_le, length, not, is_some, IfOk, None, Some, if◌then◌else◌};
 ghost use Rattle.std.specs.Str.{bytes_eq};
 ghost use Rattle.cat_rules.specs.Tables.{do_fit_together};
-ghost use Rattle.cat_types.specs.declared.calls.Call.TheVariants.{AlterTable, CreateTable, DropTable};
+ghost use Rattle.cat_values.specs.Names.{lower};
 ghost use Rattle.cat_types.specs.declared.replies.Reply.TheVariants.{Nothing};
 ghost use Rattle.cat_objects.specs.Catalogue.{at_name};
 ghost use Rattle.rulings.specs.Decisions.{Decides, decided_by};
 ghost use Rattle.rulings.specs.Rules.{first_broken};
-ghost use Rattle.catalogue.specs.Rules.{ruled};
-ghost use Rattle.table_rules.specs.Tables.{alter_table_rules, drop_table_rules, fits_columns, table_altered, table_dropped};
+ghost use Rattle.table_rules.specs.Tables.{alter_table_rules, create_table_rules, drop_table_rules, fits_columns, table_altered, table_created, table_dropped};
 ghost use Rattle.rulings.specs.Bars.{is_dumping};
 ghost use Rattle.kept_records.specs.Tables.{altered_table, have_same_keys, lower_columns, made_table};
 
-use crate::databases::{changed, names_another};
-use crate::decision::{TABLE_LIMIT, one_op, refused};
-use crate::{Bars, Cat, Decided, HeldDb, HeldTable, Refusal};
+use crate::databases::names_another;
+use cat_objects::{Cat, HeldDb, HeldTable};
 use cat_rules::{columns_rule, object_name};
 use cat_types::{
     Change, CopyParts, EventKind, LowerName, NoMemory, Op, Reply, TableArg, TableRec, Text,
 };
 use kept_records::{altered_table, have_same_keys, made_table};
+use rulings::{Bars, Decided, Refusal, changed, one_op, refused};
 use std::alloc::Global;
 
-// Creating a table.
-pub(crate) fn decide_create_table(
+/// How many tables a database has at most.
+pub const TABLE_LIMIT: u64 = 1_000_000;
+
+/// Creating a table.
+pub fn create_table(
     alloc: Global,
     cat: &Cat,
     bars: &Bars,
@@ -32,7 +34,7 @@ pub(crate) fn decide_create_table(
     moment: u64,
     next: u64,
 ) -> Decided
-    ensures { Decides (ruled cat.now bars.now (CreateTable new.now) moment next) result }
+    ensures { Decides (decided_by (first_broken (create_table_rules cat.now bars.now new.now)) (Some (table_created cat.now new.now moment next)) Nothing) result }
 {
     let Some(db) = &new.db else {
         return refused(alloc, Refusal::NoSuchObject);
@@ -73,17 +75,9 @@ pub(crate) fn decide_create_table(
     }
 }
 
-// Dropping a table.
-pub(crate) fn decide_drop_table(
-    alloc: Global,
-    cat: &Cat,
-    bars: &Bars,
-    db: &Text,
-    name: &Text,
-    _moment: u64,
-    _next: u64,
-) -> Decided
-    ensures { Decides (ruled cat.now bars.now (DropTable db.now name.now) _moment _next) result }
+/// Dropping a table.
+pub fn drop_table(alloc: Global, cat: &Cat, bars: &Bars, db: &Text, name: &Text) -> Decided
+    ensures { Decides (decided_by (first_broken (drop_table_rules cat.now bars.now (lower db.now) (lower name.now))) (Some (table_dropped cat.now (lower db.now) (lower name.now))) Nothing) result }
 {
     let Ok(db) = LowerName::of(alloc, db) else {
         return Decided::NoMemory;
@@ -91,11 +85,11 @@ pub(crate) fn decide_drop_table(
     let Ok(name) = LowerName::of(alloc, name) else {
         return Decided::NoMemory;
     };
-    drop_table(alloc, cat, bars, db.as_text(), name.as_text())
+    drop_named(alloc, cat, bars, db.as_text(), name.as_text())
 }
 
-// Altering a table.
-pub(crate) fn decide_alter_table(
+/// Altering a table.
+pub fn alter_table(
     alloc: Global,
     cat: &Cat,
     bars: &Bars,
@@ -103,9 +97,8 @@ pub(crate) fn decide_alter_table(
     name: &Text,
     new: &TableArg,
     moment: u64,
-    _next: u64,
 ) -> Decided
-    ensures { Decides (ruled cat.now bars.now (AlterTable db.now name.now new.now) moment _next) result }
+    ensures { Decides (decided_by (first_broken (alter_table_rules cat.now bars.now (lower db.now) (lower name.now) new.now)) (Some (table_altered cat.now (lower db.now) (lower name.now) new.now moment)) Nothing) result }
 {
     let Ok(db) = LowerName::of(alloc, db) else {
         return Decided::NoMemory;
@@ -113,7 +106,7 @@ pub(crate) fn decide_alter_table(
     let Ok(name) = LowerName::of(alloc, name) else {
         return Decided::NoMemory;
     };
-    alter_table(alloc, cat, bars, db.as_text(), name.as_text(), new, moment)
+    alter_named(alloc, cat, bars, db.as_text(), name.as_text(), new, moment)
 }
 
 // Where a table is made: its database, and its name there. Both names are in lower case.
@@ -170,8 +163,8 @@ impl<'a> Making<'a> {
     }
 }
 
-// Dropping a table; both names are in lower case.
-fn drop_table(alloc: Global, cat: &Cat, bars: &Bars, db: &Text, name: &Text) -> Decided
+// The same; both names are in lower case.
+fn drop_named(alloc: Global, cat: &Cat, bars: &Bars, db: &Text, name: &Text) -> Decided
     ensures { Decides (decided_by (first_broken (drop_table_rules cat.now bars.now db.now name.now)) (Some (table_dropped cat.now db.now name.now)) Nothing) result }
 {
     let Some(held) = cat.held_database(db) else {
@@ -226,8 +219,8 @@ fn table_put(
     }
 }
 
-// Altering a table; both names are in lower case.
-fn alter_table(
+// The same; both names are in lower case.
+fn alter_named(
     alloc: Global,
     cat: &Cat,
     bars: &Bars,

@@ -11,17 +11,17 @@ ghost use Rattle.rulings.specs.Rules.{first_broken};
 ghost use Rattle.table_rules.specs.Tables.{columns_as, first_asked, get_columns_rules, get_table_req_rules, get_table_rules, named_table, requested_table, schema_as, table_as, table_names, table_then, tables_named, tables_there};
 
 use crate::databases::matching_names;
-use crate::decision::refused;
-use crate::{Cat, Decided, HeldTable, Refusal};
+use cat_objects::Cat;
 use cat_types::{
     Columns, CopyParts, ListOf, LowerName, NamedTable, NoMemory, Reply, TableRec, Tables, Text,
     Texts, TryCopy,
 };
+use rulings::{Decided, Refusal, find_table, refused};
 use std::alloc::Global;
 use std::collections::BTreeSet;
 
-// The names of the tables of a database that a pattern asks for.
-pub(crate) fn get_tables(alloc: Global, cat: &Cat, db: &Text, pattern: &Text) -> Decided
+/// The names of the tables of a database that a pattern asks for.
+pub fn get_tables(alloc: Global, cat: &Cat, db: &Text, pattern: &Text) -> Decided
     ensures { Decides (decided_by None None (Names (matching pattern.now (table_names cat.now (lower db.now))))) result }
 {
     let Ok(db) = LowerName::of(alloc, db) else {
@@ -36,8 +36,8 @@ pub(crate) fn get_tables(alloc: Global, cat: &Cat, db: &Text, pattern: &Text) ->
     }
 }
 
-// The names of all tables of a database.
-pub(crate) fn get_all_tables(alloc: Global, cat: &Cat, db: &Text) -> Decided
+/// The names of all tables of a database.
+pub fn get_all_tables(alloc: Global, cat: &Cat, db: &Text) -> Decided
     ensures { Decides (decided_by None None (Names (table_names cat.now (lower db.now)))) result }
 {
     let Ok(db) = LowerName::of(alloc, db) else {
@@ -49,8 +49,8 @@ pub(crate) fn get_all_tables(alloc: Global, cat: &Cat, db: &Text) -> Decided
     }
 }
 
-// A table by its names.
-pub(crate) fn get_table(alloc: Global, cat: &Cat, db: &Text, name: &Text) -> Decided
+/// A table by its names.
+pub fn get_table(alloc: Global, cat: &Cat, db: &Text, name: &Text) -> Decided
     ensures { Decides (decided_by (first_broken (get_table_rules cat.now (lower db.now) (lower name.now))) None (table_as (table cat.now (lower db.now) (lower name.now)) (lower db.now) (lower name.now))) result }
 {
     let Ok(db) = LowerName::of(alloc, db) else {
@@ -93,13 +93,8 @@ fn push_table(
     }
 }
 
-// A table by a request, whose names may be absent.
-pub(crate) fn get_table_req(
-    alloc: Global,
-    cat: &Cat,
-    db: &Option<Text>,
-    name: &Option<Text>,
-) -> Decided
+/// A table by a request, whose names may be absent.
+pub fn get_table_req(alloc: Global, cat: &Cat, db: &Option<Text>, name: &Option<Text>) -> Decided
     ensures { Decides (decided_by (first_broken (get_table_req_rules cat.now db.now name.now)) None (requested_table cat.now db.now name.now)) result }
 {
     match (db, name) {
@@ -110,8 +105,8 @@ pub(crate) fn get_table_req(
     }
 }
 
-// Those of the named tables that there are.
-pub(crate) fn get_tables_named(alloc: Global, cat: &Cat, db: &Text, names: &Texts) -> Decided
+/// Those of the named tables that there are.
+pub fn get_tables_named(alloc: Global, cat: &Cat, db: &Text, names: &Texts) -> Decided
     ensures { Decides (decided_by None None (Tables (tables_named cat.now (lower db.now) names.now))) result }
 {
     let Ok(db) = LowerName::of(alloc, db) else {
@@ -172,8 +167,8 @@ fn push_if_there(
     }
 }
 
-// The columns of a table.
-pub(crate) fn get_fields(alloc: Global, cat: &Cat, db: &Text, name: &Text) -> Decided
+/// The columns of a table.
+pub fn get_fields(alloc: Global, cat: &Cat, db: &Text, name: &Text) -> Decided
     ensures { Decides (decided_by (first_broken (get_columns_rules cat.now (lower db.now) (lower name.now))) None (columns_as (table cat.now (lower db.now) (lower name.now)))) result }
 {
     match find_table(alloc, cat, db, name) {
@@ -186,8 +181,8 @@ pub(crate) fn get_fields(alloc: Global, cat: &Cat, db: &Text, name: &Text) -> De
     }
 }
 
-// The columns of a table, and behind them its keys.
-pub(crate) fn get_schema(alloc: Global, cat: &Cat, db: &Text, name: &Text) -> Decided
+/// The columns of a table, and behind them its keys.
+pub fn get_schema(alloc: Global, cat: &Cat, db: &Text, name: &Text) -> Decided
     ensures { Decides (decided_by (first_broken (get_columns_rules cat.now (lower db.now) (lower name.now))) None (schema_as (table cat.now (lower db.now) (lower name.now)))) result }
 {
     match find_table(alloc, cat, db, name) {

@@ -2,7 +2,7 @@ use Rattle.std.proofs.Common.{◌≡◌, ◌∷◌, ◌∙◌, Some, Err, suc, d
 use Rattle.std.proofs.lemmas.Result.{err_from_is_err_and}
 use Rattle.part_rules.specs.PartChanges.{each_altered_rules, values_of}
 use Rattle.rulings.specs.Rules.{first_broken}
-use Rattle.part_rules.specs.declared.part_site.Barred.TheVariants.{Refused}
+use Rattle.rulings.specs.declared.barred.Barred.TheVariants.{Refused}
 use Rattle.part_rules.proofs.Adding.{first_left}
 use Rattle.part_rules.proofs.part_changes.alter_all.Goals as goal
 

@@ -2,7 +2,7 @@ use Rattle.std.proofs.Common.{◌≡◌, Some, Err, false, rules, subst}
 use Rattle.cat_objects.specs.Catalogue.{at_name, database}
 use Rattle.rulings.specs.Bars.{is_replica}
 use Rattle.rulings.specs.Decisions.{Decides, refused}
-use Rattle.part_rules.specs.declared.part_site.Barred.TheVariants.{Refused}
+use Rattle.rulings.specs.declared.barred.Barred.TheVariants.{Refused}
 use Rattle.rulings.specs.declared.refusal.Refusal.{Refusal}
 use Rattle.part_rules.proofs.Renaming.{list_barred}
 use Rattle.part_rules.proofs.part_changes.alter_list.Goals as goal

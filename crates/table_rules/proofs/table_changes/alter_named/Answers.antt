@@ -4,7 +4,7 @@ use Rattle.rulings.specs.Names.{is_named, kept_name, names_another}
 use Rattle.rulings.specs.Bars.{is_replica}
 use Rattle.cat_objects.specs.declared.held.HeldDb.{HeldDb}
 use Rattle.table_rules.proofs.DecidingTables.{table_is_altered}
-use Rattle.table_rules.proofs.table_changes.alter_table.Goals as goal
+use Rattle.table_rules.proofs.table_changes.alter_named.Goals as goal
 
 pub returns-in-Ok-Some : goal.returns-in-Ok-Some
 returns-in-Ok-Some c =
