@@ -27,12 +27,7 @@ pub(crate) fn put_all(
 }
 
 // Puts the statistics of one column over those that are kept of it.
-fn put_named(
-    alloc: Global,
-    kept: &mut Stats,
-    object: &StatArg,
-    at: i64,
-) -> Result<(), NoMemory>
+fn put_named(alloc: Global, kept: &mut Stats, object: &StatArg, at: i64) -> Result<(), NoMemory>
     ensures { OnOk result (kept.new ≡ put_named at kept.old object.now.col object.now.value) }
 {
     let Some(col) = &object.col else {
@@ -78,11 +73,7 @@ fn without_column(alloc: Global, stats: &Stats, col: &Text) -> Result<Option<Sta
 }
 
 // A copy of a table's record, with these statistics.
-pub(crate) fn table_with(
-    alloc: Global,
-    rec: &TableRec,
-    stats: Stats,
-) -> Result<TableRec, NoMemory>
+pub(crate) fn table_with(alloc: Global, rec: &TableRec, stats: Stats) -> Result<TableRec, NoMemory>
     ensures { IfOk result (λ made. made ≡ table_with stats rec.now) }
 {
     match (

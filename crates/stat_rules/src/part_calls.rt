@@ -49,7 +49,16 @@ pub fn update_partition_column_statistics(
         return refused(alloc, Refusal::InvalidInput);
     };
     let at = taken_at(desc.analyzed, moment);
-    put_at_part(alloc, cat, bars, &desc.db, &desc.table, called, &new.objects, at)
+    put_at_part(
+        alloc,
+        cat,
+        bars,
+        &desc.db,
+        &desc.table,
+        called,
+        &new.objects,
+        at,
+    )
 }
 
 // Puts statistics at a partition of the table with these names.
@@ -96,13 +105,7 @@ fn put_at_part(
 }
 
 // Puts statistics at the partition with this name of a table that is there.
-fn put_in(
-    alloc: Global,
-    site: &Site<'_>,
-    called: &Text,
-    objects: &StatArgs,
-    at: i64,
-) -> Decided
+fn put_in(alloc: Global, site: &Site<'_>, called: &Text, objects: &StatArgs, at: i64) -> Decided
     ensures { Decides (decided_by (first_broken (put_in_rules (Some site.now.held.now) called.now objects.now)) (unless_empty objects.now (record { kind = kind.AlterPartition; db = site.now.db.now; db_born = site.now.db_born; ops = part_given (at_values (vals called.now) site.now.held.now.parts) site.now.name.now site.now.held.now.born (vals called.now) (λ stats. put_all at stats objects.now) })) (Flag true)) result }
 {
     match named_values(alloc, &site.held.rec.keys, called) {
@@ -206,12 +209,7 @@ fn delete_in(alloc: Global, site: &Site<'_>, called: &Text, col: &Option<Text>) 
 }
 
 // The same of the partition with these values.
-fn delete_at_values(
-    alloc: Global,
-    site: &Site<'_>,
-    values: &Texts,
-    col: &Option<Text>,
-) -> Decided
+fn delete_at_values(alloc: Global, site: &Site<'_>, values: &Texts, col: &Option<Text>) -> Decided
     ensures { Decides (decided_by (first_broken (delete_at_values_rules (Some site.now.held.now) values.now col.now)) (Some (record { kind = kind.AlterPartition; db = site.now.db.now; db_born = site.now.db_born; ops = part_given (at_values values.now site.now.held.now.parts) site.now.name.now site.now.held.now.born values.now (without_stats col.now) })) (Flag true)) result }
 {
     let Some(rec) = site.held.parts.get(values) else {
@@ -251,7 +249,14 @@ pub fn get_partition_column_statistics(
     let Ok(col) = LowerName::of(alloc, col) else {
         return Decided::NoMemory;
     };
-    get_in(alloc, db.as_text(), name.as_text(), held, called, col.as_text())
+    get_in(
+        alloc,
+        db.as_text(),
+        name.as_text(),
+        held,
+        called,
+        col.as_text(),
+    )
 }
 
 // Reads the statistics of a column of the partition with this name; the column's name is in lower case.

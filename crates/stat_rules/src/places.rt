@@ -37,11 +37,7 @@ fn add_place(alloc: Global, places: &mut Places, name: &Text, at: usize) -> Resu
 }
 
 // The first column of a list with this name.
-pub(crate) fn column_of<'a>(
-    cols: &'a Columns,
-    places: &Places,
-    name: &Text,
-) -> Option<&'a Column>
+pub(crate) fn column_of<'a>(cols: &'a Columns, places: &Places, name: &Text) -> Option<&'a Column>
     requires { LeadTo places.now.entries cols.now }
     ensures { option_copied result ≡ column_named cols.now name.now }
 {

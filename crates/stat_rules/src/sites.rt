@@ -7,9 +7,7 @@ ghost use Rattle.stat_rules.specs.Records.{part_with, table_with};
 use crate::kept::{part_with, table_with};
 use cat_objects::HeldTable;
 use cat_rules::{columns_rule, object_name};
-use cat_types::{
-    Change, CopyParts, EventKind, NoMemory, Op, PartRec, Stats, Text, Texts, TryCopy,
-};
+use cat_types::{Change, CopyParts, EventKind, NoMemory, Op, PartRec, Stats, Text, Texts, TryCopy};
 use rulings::one_op;
 use std::alloc::Global;
 

@@ -9,14 +9,16 @@ ghost use Rattle.cat_objects.specs.Catalogue.{at_name};
 ghost use Rattle.rulings.specs.Decisions.{Decides, accepted, decided_by};
 ghost use Rattle.rulings.specs.Rules.{first_broken};
 ghost use Rattle.stat_rules.specs.Records.{put_all, told_stat, table_with, without_stats};
-ghost use Rattle.stat_rules.specs.Statistics.{delete_at_rules, delete_table_rules, get_stats_rules, get_table_stat_rules, put_at_rules, put_at_table, put_at_table_rules, requested_stats, table_deleted, table_stat, table_updated, unless_empty, update_table_rules};
+ghost use Rattle.stat_rules.specs.Statistics.{delete_at_rules, delete_table_rules, get_here_rules, get_stats_rules, get_table_stat_rules, put_at_rules, put_at_table, put_at_table_rules, requested_stats, table_deleted, table_stat, table_stat_in, table_updated, unless_empty, update_table_rules};
 
 use crate::kept::{left_stats, put_all};
 use crate::sites::Site;
 use crate::taking::{taken_at, takes_all};
 use crate::told::{stats_asked, told_stat};
-use cat_objects::Cat;
-use cat_types::{CopyParts, LowerName, NamedStats, NoMemory, Reply, StatArgs, StatsArg, Text, Texts};
+use cat_objects::{Cat, HeldTable};
+use cat_types::{
+    CopyParts, LowerName, NamedStats, NoMemory, Reply, StatArgs, StatsArg, Text, Texts,
+};
 use rulings::{Bars, Decided, Refusal, find_table, flagged, refused};
 use std::alloc::Global;
 
@@ -195,20 +197,22 @@ pub fn get_table_column_statistics(
     let Ok(col) = LowerName::of(alloc, col) else {
         return Decided::NoMemory;
     };
-    if held.rec.stats.get(col.as_text()).is_none() {
+    get_here(alloc, db.as_text(), name.as_text(), held, col.as_text())
+}
+
+// Reads the statistics of a column of a table that is there; the column's name is in lower case.
+fn get_here(alloc: Global, db: &Text, name: &Text, held: &HeldTable, col: &Text) -> Decided
+    ensures { Decides (decided_by (first_broken (get_here_rules (Some held.now) col.now)) None (table_stat_in (Some held.now) db.now name.now col.now)) result }
+{
+    if held.rec.stats.get(col).is_none() {
         return refused(alloc, Refusal::NoSuchObject);
     }
-    let told = told_stat(alloc, &held.rec.stats, &held.rec.sd.cols, col.as_text());
-    of_table(alloc, db.as_text(), name.as_text(), told)
+    let told = told_stat(alloc, &held.rec.stats, &held.rec.sd.cols, col);
+    of_table(alloc, db, name, told)
 }
 
 // Tells statistics of a table's columns.
-fn of_table(
-    alloc: Global,
-    db: &Text,
-    name: &Text,
-    told: Result<NamedStats, NoMemory>,
-) -> Decided
+fn of_table(alloc: Global, db: &Text, name: &Text, told: Result<NamedStats, NoMemory>) -> Decided
     ensures ok { IfOk told (λ stats. Decides (accepted None (ColumnStats db.now name.now None stats)) result) }
     ensures err { OnErr told (result ≡ Decided.NoMemory) }
 {

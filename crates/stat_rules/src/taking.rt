@@ -24,11 +24,7 @@ pub(crate) fn taken_at(analyzed: Option<i64>, moment: u64) -> i64
 }
 
 // Whether a table takes all statistics that are handed in.
-pub(crate) fn takes_all(
-    alloc: Global,
-    rec: &TableRec,
-    objects: &StatArgs,
-) -> Result<bool, NoMemory>
+pub(crate) fn takes_all(alloc: Global, rec: &TableRec, objects: &StatArgs) -> Result<bool, NoMemory>
     ensures { IfOk result (λ takes. takes ≡ takes_all rec.now objects.now) }
 {
     let places = places_of(alloc, &rec.sd.cols)?;

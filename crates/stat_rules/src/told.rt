@@ -28,7 +28,13 @@ pub(crate) fn told_stat(
 {
     let mut told = ListOf::new(alloc);
     if let Some(rec) = stats.get(col) {
-        push_stat(alloc, &mut told, col, find_column(cols.as_slice(), col), rec)?;
+        push_stat(
+            alloc,
+            &mut told,
+            col,
+            find_column(cols.as_slice(), col),
+            rec,
+        )?;
     }
     Ok(told)
 }
