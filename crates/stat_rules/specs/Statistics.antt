@@ -1,6 +1,8 @@
 -- The calls on statistics of columns: their rules, what they change, and what they result in.
 use Rattle.std.specs.Prelude.{ℕ, Bool, false, not, ◌&&◌, List, [], ◌∷◌, Option, None, Some, is_some, ℤ}
+use Rattle.cat_values.specs.Names.{lower}
 use Rattle.cat_values.specs.declared.records.PartRec.{PartRec}
+use Rattle.cat_values.specs.declared.statistics.StatRec.{StatRec}
 use Rattle.cat_values.specs.declared.storage.Column.{Column}
 use Rattle.cat_types.specs.declared.arguments.StatArg.{StatArg}
 use Rattle.cat_types.specs.declared.arguments.StatsArg.{StatsArg}
@@ -12,7 +14,7 @@ use Rattle.cat_types.specs.declared.changes.Op.TheVariants.{PutPart, PutTable}
 use Rattle.cat_types.specs.declared.named.NamedStat.{NamedStat}
 use Rattle.cat_types.specs.declared.replies.Reply.{Reply}
 use Rattle.cat_types.specs.declared.replies.Reply.TheVariants.{ColumnStats, Stats}
-use Rattle.cat_objects.specs.Catalogue.{Catalogue, at_name, has_table, part, parts_of, table}
+use Rattle.cat_objects.specs.Catalogue.{Catalogue, at_name, database, has_table, part, parts_of, table}
 use Rattle.cat_objects.specs.Changes.{is_lawful_table}
 use Rattle.cat_objects.specs.Parts.{at_values}
 use Rattle.cat_objects.specs.declared.held.HeldTable.{HeldTable}
@@ -194,12 +196,18 @@ table_cols None = []
 table_cols (Some held) = held.rec.sd.cols
 
 -- a column's statistics that are asked for are there, of a table that is there
+abbrev pub get_here_rules : Option HeldTable → List ℕ → List Rule
+get_here_rules held col = (not (is_some (at_name col (stats_of held))), NoSuchObject) ∷ []
+
 abbrev pub get_table_stat_rules : Catalogue → List ℕ → List ℕ → List ℕ → List Rule
-get_table_stat_rules cat db name col = (not (has_table cat db name), NoSuchObject) ∷ (not (is_some (at_name col (stats_of (table cat db name)))), NoSuchObject) ∷ []
+get_table_stat_rules cat db name col = (not (has_table cat db name), NoSuchObject) ∷ get_here_rules (table cat db name) col
 
 -- a table's statistics of one column
+abbrev pub table_stat_in : Option HeldTable → List ℕ → List ℕ → List ℕ → Reply
+table_stat_in held db name col = ColumnStats db name None (told_stat (at_name col (stats_of held)) (table_cols held) col)
+
 abbrev pub table_stat : Catalogue → List ℕ → List ℕ → List ℕ → Reply
-table_stat cat db name col = ColumnStats db name None (told_stat (at_name col (stats_of (table cat db name))) (table_cols (table cat db name)) col)
+table_stat cat db name col = table_stat_in (table cat db name) db name col
 
 -- a column's statistics that are asked for are there, of a partition that is there
 abbrev pub get_at_values_rules : Option HeldTable → List (List ℕ) → List ℕ → List Rule

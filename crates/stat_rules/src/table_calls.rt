@@ -1,6 +1,6 @@
 //! The calls on statistics of a table's columns.
 
-ghost use Rattle.std.specs.Prelude.{◌≡◌, ◌∷◌, [], IfOk, None, OnErr, Some, is_some, not, true, if◌then◌else◌};
+ghost use Rattle.std.specs.Prelude.{◌≡◌, ◌∷◌, [], IfOk, None, OnErr, Some, true, if◌then◌else◌};
 ghost use Rattle.cat_values.specs.Names.{lower};
 ghost use Rattle.cat_types.specs.declared.changes.EventKind.TheVariants as kind;
 ghost use Rattle.cat_types.specs.declared.changes.Op.TheVariants.{PutTable};
@@ -8,9 +8,8 @@ ghost use Rattle.cat_types.specs.declared.replies.Reply.TheVariants.{ColumnStats
 ghost use Rattle.cat_objects.specs.Catalogue.{at_name};
 ghost use Rattle.rulings.specs.Decisions.{Decides, accepted, decided_by};
 ghost use Rattle.rulings.specs.Rules.{first_broken};
-ghost use Rattle.rulings.specs.declared.refusal.Refusal.TheVariants.{NoSuchObject};
 ghost use Rattle.stat_rules.specs.Records.{put_all, told_stat, table_with, without_stats};
-ghost use Rattle.stat_rules.specs.Statistics.{delete_at_rules, delete_table_rules, get_stats_rules, get_table_stat_rules, put_at_rules, put_at_table, put_at_table_rules, requested_stats, table_deleted, table_stat, table_updated, unless_empty, update_table_rules};
+ghost use Rattle.stat_rules.specs.Statistics.{delete_at_rules, delete_table_rules, get_here_rules, get_stats_rules, get_table_stat_rules, put_at_rules, put_at_table, put_at_table_rules, requested_stats, table_deleted, table_stat, table_stat_in, table_updated, unless_empty, update_table_rules};
 
 use crate::kept::{left_stats, put_all};
 use crate::sites::Site;
@@ -201,9 +200,9 @@ pub fn get_table_column_statistics(
     get_here(alloc, db.as_text(), name.as_text(), held, col.as_text())
 }
 
-// Reads the statistics of a column of a table that is there; all names are in lower case.
+// Reads the statistics of a column of a table that is there; the column's name is in lower case.
 fn get_here(alloc: Global, db: &Text, name: &Text, held: &HeldTable, col: &Text) -> Decided
-    ensures { Decides (decided_by (first_broken ((not (is_some (at_name col.now held.now.rec.stats)), NoSuchObject) ∷ [])) None (ColumnStats db.now name.now None (told_stat (at_name col.now held.now.rec.stats) held.now.rec.sd.cols col.now))) result }
+    ensures { Decides (decided_by (first_broken (get_here_rules (Some held.now) col.now)) None (table_stat_in (Some held.now) db.now name.now col.now)) result }
 {
     if held.rec.stats.get(col).is_none() {
         return refused(alloc, Refusal::NoSuchObject);
