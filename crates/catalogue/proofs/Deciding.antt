@@ -1,51 +1,36 @@
 -- A change that is decided can be taken.
-use Rattle.std.proofs.Common.{◌≡◌, ◌==◌, ℕ, Bool, true, false, not, List, [], ◌∷◌, Option, Some, None, is_some, if◌then◌else◌, nat_le, refl, ap, ◌∙◌, eq-eqb}
-use Rattle.cat_types.specs.declared.arguments.DbArg.{DbArg}
+use Rattle.std.proofs.Common.{◌≡◌, ℕ, Bool, true, false, List, [], ◌∷◌, Option, Some, None, if◌then◌else◌, nat_le, refl, ap, ◌∙◌}
 use Rattle.cat_types.specs.declared.arguments.PartArg.{PartArg}
-use Rattle.cat_types.specs.declared.arguments.TableArg.{TableArg}
 use Rattle.cat_types.specs.declared.calls.Call.{Call}
-use Rattle.cat_types.specs.declared.calls.Call.TheVariants.{AddPartition, AddPartitions, AddPartitionsReq, AlterDatabase, AlterPartition, AlterPartitions, AlterTable, AppendPartition, AppendPartitionByName, CreateDatabase, CreateTable, DropDatabase, DropPartition, DropPartitionByName, DropTable, GetAllDatabases, GetAllTables, GetCurrentNotificationEventId, GetDatabase, GetDatabases, GetFields, GetNextNotification, GetPartition, GetPartitionByName, GetPartitionNames, GetPartitionNamesPs, GetPartitions, GetPartitionsByNames, GetPartitionsPs, GetSchema, GetTable, GetTableObjectsByName, GetTableReq, GetTables, RenamePartition}
+use Rattle.cat_types.specs.declared.calls.Call.TheVariants.{AddPartition, AddPartitions, AddPartitionsReq, AlterDatabase, AlterPartition, AlterPartitions, AlterTable, AppendPartition, AppendPartitionByName, CreateDatabase, CreateTable, DeletePartitionColumnStatistics, DeleteTableColumnStatistics, DropDatabase, DropPartition, DropPartitionByName, DropTable, GetAllDatabases, GetAllTables, GetCurrentNotificationEventId, GetDatabase, GetDatabases, GetFields, GetNextNotification, GetNumPartitionsByFilter, GetPartition, GetPartitionByName, GetPartitionColumnStatistics, GetPartitionNames, GetPartitionNamesPs, GetPartitions, GetPartitionsByFilter, GetPartitionsByNames, GetPartitionsPs, GetSchema, GetTable, GetTableColumnStatistics, GetTableObjectsByName, GetTableReq, GetTableStatisticsReq, GetTables, RenamePartition, UpdatePartitionColumnStatistics, UpdateTableColumnStatistics}
 use Rattle.cat_types.specs.declared.changes.Change.{Change}
 use Rattle.cat_types.specs.declared.changes.EventKind.TheVariants as kind
-use Rattle.cat_types.specs.declared.changes.Op.{Op}
-use Rattle.cat_types.specs.declared.changes.Op.TheVariants.{DropDb, PutDb}
 use Rattle.cat_types.specs.declared.replies.Reply.{Reply}
-use Rattle.cat_types.specs.declared.replies.Reply.TheVariants.{Nothing}
-use Rattle.cat_values.specs.Names.{is_object_name, lower}
-use Rattle.cat_objects.specs.Catalogue.{Catalogue, database, has_database, table}
-use Rattle.cat_objects.specs.Changes.{are_some, has_operation, takes_call}
-use Rattle.catalogue.specs.Databases.{Rule, alter_database_rules, born_of, create_database_rules, database_altered, database_created, database_dropped, drop_database_rules, kept_name, kept_record}
-use Rattle.catalogue.specs.Decisions.{Decides, IfChange, decided_by, told}
-use Rattle.catalogue.specs.PartChanges.{add_list_rules, all_altered, alter_partition_rules, alter_partitions_rules, append_partition_rules, appended, drop_partition_rules, if_any, list_added, list_change, ops_under, part_change, partition_appended, partition_dropped, partition_renamed, rename_partition_rules}
-use Rattle.catalogue.specs.Partitions.{Meaning, by_name, by_values, meant_values}
-use Rattle.catalogue.specs.Rules.{breaks, decision, first_broken, first_refusal, lacks_number}
-use Rattle.catalogue.specs.Tables.{alter_table_rules, create_table_rules, drop_table_rules, renames, table_altered, table_born, table_created, table_dropped, table_put}
-use Rattle.catalogue.specs.declared.bars.Bars.{Bars}
-use Rattle.catalogue.specs.declared.decided.Decided.{Decided}
-use Rattle.catalogue.specs.declared.decided.Decided.TheVariants as decided
-use Rattle.cat_objects.specs.declared.held.HeldTable.{HeldTable}
-use Rattle.catalogue.specs.declared.refusal.Refusal.{Refusal}
-use Rattle.catalogue.proofs.DecidingParts.{add_list_taken, alter_list_taken, alter_one_taken, append_taken, drop_part_taken, rename_does, rename_taken}
-use Rattle.catalogue.proofs.DecidingTables.{alter_table_taken, create_table_taken, drop_table_taken}
-use Rattle.catalogue.proofs.Rules.{both, born_there, call_taken, fits_there, has_number, kept_named, unbroken}
-
--- ---- calls on databases
-
-create_taken : (cat : Catalogue) (db : DbArg) (next : ℕ) → first_broken (create_database_rules cat db) ≡ None → nat_le next 9223372036854775807 ≡ true → takes_call cat next (database_created db next) ≡ true
-create_taken cat db next none room =
-    let tests = unbroken (create_database_rules cat db) none in
-    call_taken cat kind.CreateDatabase (kept_name db.name) next (PutDb (kept_record db.rec)) next room
-    (both (is_object_name (kept_name db.name)) _ (kept_named db.name tests.0) (both (not (has_database cat (kept_name db.name))) _ (ap not tests.1.0) (both (next == next) true (eq-eqb next next refl) refl)))
-
-drop_taken : (cat : Catalogue) (bars : Bars) (name : List ℕ) (cascade : Bool) (next : ℕ) → first_broken (drop_database_rules cat bars name cascade) ≡ None → nat_le next 9223372036854775807 ≡ true → takes_call cat next (database_dropped cat name) ≡ true
-drop_taken cat bars name cascade next none room =
-    let tests = unbroken (drop_database_rules cat bars name cascade) none in
-    call_taken cat kind.DropDatabase name (born_of (database cat name)) DropDb next room (both _ true (born_there (database cat name) tests.0) refl)
-
-alter_taken : (cat : Catalogue) (bars : Bars) (name : List ℕ) (db : DbArg) (next : ℕ) → first_broken (alter_database_rules cat bars name db) ≡ None → nat_le next 9223372036854775807 ≡ true → takes_call cat next (database_altered cat name db) ≡ true
-alter_taken cat bars name db next none room =
-    let tests = unbroken (alter_database_rules cat bars name db) none in
-    call_taken cat kind.AlterDatabase name (born_of (database cat name)) (PutDb (kept_record db.rec)) next room (fits_there cat kind.AlterDatabase name (PutDb (kept_record db.rec)) tests.0 refl)
+use Rattle.cat_types.specs.declared.replies.Reply.TheVariants.{Flag, Nothing}
+use Rattle.cat_values.specs.Names.{lower}
+use Rattle.cat_objects.specs.Catalogue.{Catalogue, table}
+use Rattle.cat_objects.specs.Changes.{has_operation, takes_call}
+use Rattle.cat_types.specs.declared.arguments.StatArg.{StatArg}
+use Rattle.std.specs.Prelude.{ℤ}
+use Rattle.stat_rules.specs.Statistics.{delete_part_rules, delete_table_rules, part_deleted, said_at, table_deleted, unless_empty, update_part_rules, update_table_rules}
+use Rattle.stat_rules.proofs.DecidingStats.{delete_part_makes, delete_part_taken, delete_table_makes, delete_table_taken, part_due, table_due, update_part_makes, update_part_taken, update_table_makes, update_table_taken}
+use Rattle.rulings.specs.Rules.{Rule, first_broken}
+use Rattle.table_rules.specs.Databases.{alter_database_rules, create_database_rules, database_altered, database_created, database_dropped, drop_database_rules}
+use Rattle.rulings.specs.Changes.{if_any, part_change, table_born}
+use Rattle.rulings.specs.Names.{kept_name}
+use Rattle.rulings.specs.Decisions.{Decides, IfChange, decided_by, told}
+use Rattle.part_rules.specs.PartChanges.{add_list_rules, all_altered, alter_partition_rules, alter_partitions_rules, append_partition_rules, appended, drop_partition_rules, list_added, list_change, ops_under, partition_appended, partition_dropped, partition_renamed, rename_partition_rules}
+use Rattle.rulings.specs.Meant.{Meaning, by_name, by_values, meant_values}
+use Rattle.catalogue.specs.Rules.{breaks, decision, first_refusal, lacks_number}
+use Rattle.table_rules.specs.Tables.{alter_table_rules, create_table_rules, drop_table_rules, table_altered, table_created, table_dropped}
+use Rattle.rulings.specs.declared.bars.Bars.{Bars}
+use Rattle.rulings.specs.declared.decided.Decided.{Decided}
+use Rattle.rulings.specs.declared.decided.Decided.TheVariants as decided
+use Rattle.rulings.specs.declared.refusal.Refusal.{Refusal}
+use Rattle.part_rules.proofs.DecidingParts.{add_list_taken, alter_list_taken, alter_one_taken, append_taken, drop_part_taken, rename_does, rename_taken}
+use Rattle.table_rules.proofs.DecidingDatabases.{alter_database_taken, create_database_taken, drop_database_taken}
+use Rattle.table_rules.proofs.DecidingTables.{alter_table_makes, alter_table_taken, create_table_taken, drop_table_taken}
+use Rattle.catalogue.proofs.Numbering.{has_number}
 
 -- ---- a call that changes something
 
@@ -62,18 +47,6 @@ by_rules : (cat : Catalogue) (next : ℕ) (rules : List Rule) (change c : Change
 by_rules cat next rules change c r s makes taken is =
     by_refusals cat next (first_broken rules) (lacks_number (Some change) next) change c r s (λ none room. taken none (has_number change next (makes none) room)) is
 
--- a table that is there is put or moved
-either_some : (b : Bool) (first last : Op) → are_some (if b then first ∷ [] else last ∷ []) ≡ true
-either_some true first last = refl
-either_some false first last = refl
-
-put_some : (held : Option HeldTable) (name : List ℕ) (new : TableArg) (moment : ℕ) → not (is_some held) ≡ false → are_some (table_put held name new moment) ≡ true
-put_some None name new moment there = absurd cc
-put_some (Some held) name new moment there = either_some (renames new name) _ _
-
-alter_makes : (cat : Catalogue) (bars : Bars) (db name : List ℕ) (new : TableArg) (moment : ℕ) → first_broken (alter_table_rules cat bars db name new) ≡ None → has_operation (table_altered cat db name new moment) ≡ true
-alter_makes cat bars db name new moment none = put_some (table cat db name) name new moment (unbroken (alter_table_rules cat bars db name new) none).1.1.0
-
 -- ---- a call that changes nothing
 
 no_change : (P : Type 0) (o : Option Refusal) (c : Change) (r s : Reply) → decided.Change c r ≡ told (decided_by (first_refusal o None) None s) → P
@@ -89,6 +62,12 @@ if_any_by false cat next rules due c r s has taken is = no_change _ (first_broke
 by_any : (cat : Catalogue) (next : ℕ) (rules : List Rule) (due c : Change) (r s : Reply) → (first_broken rules ≡ None → has_operation due ≡ true → nat_le next 9223372036854775807 ≡ true → takes_call cat next due ≡ true)
     → decided.Change c r ≡ told (decided_by (first_refusal (first_broken rules) (lacks_number (if_any due) next)) (if_any due) s) → takes_call cat next c ≡ true
 by_any cat next rules due c r s taken is = if_any_by (has_operation due) cat next rules due c r s refl taken is
+
+-- a change that is made only where statistics are handed in
+by_unless : (cat : Catalogue) (next : ℕ) (rules : List Rule) (objects : List StatArg) (due c : Change) (r s : Reply) → (first_broken rules ≡ None → has_operation due ≡ true) → (first_broken rules ≡ None → nat_le next 9223372036854775807 ≡ true → takes_call cat next due ≡ true)
+    → decided.Change c r ≡ told (decided_by (first_refusal (first_broken rules) (lacks_number (unless_empty objects due) next)) (unless_empty objects due) s) → takes_call cat next c ≡ true
+by_unless cat next rules [] due c r s makes taken is = no_change _ (first_broken rules) c r s is
+by_unless cat next rules (object ∷ objects) due c r s makes taken is = by_rules cat next rules due c r s makes taken is
 
 -- the changes of calls that put partitions
 abbrev list_due : Catalogue → Option (List ℕ) → Option (List ℕ) → List PartArg → ℕ → Change
@@ -121,12 +100,12 @@ drop_call_taken cat bars db name meant next c r s is =
 change_taken : (cat : Catalogue) (bars : Bars) (call : Call) (moment next : ℕ) (c : Change) (r : Reply) → decided.Change c r ≡ told (decision cat bars call moment next) → takes_call cat next c ≡ true
 change_taken cat bars GetAllDatabases moment next c r is = no_change _ None c r _ is
 change_taken cat bars (GetDatabase name) moment next c r is = no_change _ (breaks cat bars (GetDatabase name)) c r _ is
-change_taken cat bars (CreateDatabase db) moment next c r is = by_rules cat next (create_database_rules cat db) (database_created db next) c r Nothing (λ _. refl) (create_taken cat db next) is
+change_taken cat bars (CreateDatabase db) moment next c r is = by_rules cat next (create_database_rules cat db) (database_created db next) c r Nothing (λ _. refl) (create_database_taken cat db next) is
 change_taken cat bars (DropDatabase name cascade) moment next c r is =
-    by_rules cat next (drop_database_rules cat bars (lower name) cascade) (database_dropped cat (lower name)) c r Nothing (λ _. refl) (drop_taken cat bars (lower name) cascade next) is
+    by_rules cat next (drop_database_rules cat bars (lower name) cascade) (database_dropped cat (lower name)) c r Nothing (λ _. refl) (drop_database_taken cat bars (lower name) cascade next) is
 change_taken cat bars (GetDatabases pattern) moment next c r is = no_change _ None c r _ is
 change_taken cat bars (AlterDatabase name db) moment next c r is =
-    by_rules cat next (alter_database_rules cat bars (lower name) db) (database_altered cat (lower name) db) c r Nothing (λ _. refl) (alter_taken cat bars (lower name) db next) is
+    by_rules cat next (alter_database_rules cat bars (lower name) db) (database_altered cat (lower name) db) c r Nothing (λ _. refl) (alter_database_taken cat bars (lower name) db next) is
 change_taken cat bars (CreateTable new) moment next c r is = by_rules cat next (create_table_rules cat bars new) (table_created cat new moment next) c r Nothing (λ _. refl) (create_table_taken cat bars new moment next) is
 change_taken cat bars (DropTable db name) moment next c r is =
     by_rules cat next (drop_table_rules cat bars (lower db) (lower name)) (table_dropped cat (lower db) (lower name)) c r Nothing (λ _. refl) (drop_table_taken cat bars (lower db) (lower name) next) is
@@ -136,7 +115,7 @@ change_taken cat bars (GetTable db name) moment next c r is = no_change _ (break
 change_taken cat bars (GetTableReq db name) moment next c r is = no_change _ (breaks cat bars (GetTableReq db name)) c r _ is
 change_taken cat bars (GetTableObjectsByName db names) moment next c r is = no_change _ None c r _ is
 change_taken cat bars (AlterTable db name new) moment next c r is =
-    by_rules cat next (alter_table_rules cat bars (lower db) (lower name) new) (table_altered cat (lower db) (lower name) new moment) c r Nothing (alter_makes cat bars (lower db) (lower name) new moment) (alter_table_taken cat bars (lower db) (lower name) new moment next) is
+    by_rules cat next (alter_table_rules cat bars (lower db) (lower name) new) (table_altered cat (lower db) (lower name) new moment) c r Nothing (alter_table_makes cat bars (lower db) (lower name) new moment) (alter_table_taken cat bars (lower db) (lower name) new moment next) is
 change_taken cat bars (GetFields db name) moment next c r is = no_change _ (breaks cat bars (GetFields db name)) c r _ is
 change_taken cat bars (GetSchema db name) moment next c r is = no_change _ (breaks cat bars (GetSchema db name)) c r _ is
 change_taken cat bars (AddPartition part) moment next c r is = list_taken true false cat bars part.db part.table (part ∷ []) moment next c r _ is
@@ -161,6 +140,21 @@ change_taken cat bars (AlterPartitions db name parts) moment next c r is =
 change_taken cat bars (RenamePartition db name values new) moment next c r is =
     by_rules cat next (rename_partition_rules cat bars (lower db) (lower name) values new) (partition_renamed cat (lower db) (lower name) values new moment) c r Nothing
     (rename_does cat bars (lower db) (lower name) values new moment) (rename_taken cat bars (lower db) (lower name) values new moment next) is
+change_taken cat bars (GetPartitionsByFilter db name filter max) moment next c r is = no_change _ (breaks cat bars (GetPartitionsByFilter db name filter max)) c r _ is
+change_taken cat bars (GetNumPartitionsByFilter db name filter) moment next c r is = no_change _ (breaks cat bars (GetNumPartitionsByFilter db name filter)) c r _ is
+change_taken cat bars (UpdateTableColumnStatistics new) moment next c r is =
+    let at : ℤ = said_at new.desc moment in
+    by_unless cat next (update_table_rules cat bars new) new.objects (table_due cat bars next new at) c r (Flag true) (update_table_makes cat bars next new at) (update_table_taken cat bars next new at) is
+change_taken cat bars (UpdatePartitionColumnStatistics new) moment next c r is =
+    let at : ℤ = said_at new.desc moment in
+    by_unless cat next (update_part_rules cat bars new) new.objects (part_due cat bars next new at) c r (Flag true) (update_part_makes cat bars next new at) (update_part_taken cat bars next new at) is
+change_taken cat bars (GetTableColumnStatistics db name col) moment next c r is = no_change _ (breaks cat bars (GetTableColumnStatistics db name col)) c r _ is
+change_taken cat bars (GetPartitionColumnStatistics db name called col) moment next c r is = no_change _ (breaks cat bars (GetPartitionColumnStatistics db name called col)) c r _ is
+change_taken cat bars (DeleteTableColumnStatistics db name col) moment next c r is =
+    by_rules cat next (delete_table_rules cat bars (lower db) (lower name) col) (table_deleted cat (lower db) (lower name) col) c r (Flag true) (delete_table_makes cat bars next (lower db) (lower name) col) (delete_table_taken cat bars next (lower db) (lower name) col) is
+change_taken cat bars (DeletePartitionColumnStatistics db name called col) moment next c r is =
+    by_rules cat next (delete_part_rules cat bars (lower db) (lower name) called col) (part_deleted cat (lower db) (lower name) called col) c r (Flag true) (delete_part_makes cat bars next (lower db) (lower name) col called) (delete_part_taken cat bars next (lower db) (lower name) col called) is
+change_taken cat bars (GetTableStatisticsReq db name cols) moment next c r is = no_change _ (breaks cat bars (GetTableStatisticsReq db name cols)) c r _ is
 change_taken cat bars (GetNextNotification last max) moment next c r is = no_change _ None c r _ is
 change_taken cat bars GetCurrentNotificationEventId moment next c r is = no_change _ None c r _ is
 

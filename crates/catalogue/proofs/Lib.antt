@@ -1,11 +1,2 @@
-pub mod Rules
-pub mod Asking
-pub mod Listing
-pub mod Adding
 pub mod Numbering
-pub mod DecidingTables
-pub mod AddingHere
-pub mod Renaming
-pub mod Holding
-pub mod DecidingParts
 pub mod Deciding

@@ -1,7 +1,7 @@
 -- Which calls are polls.
 use Rattle.std.specs.Prelude.{Option, None, Some}
 use Rattle.cat_types.specs.declared.calls.Call.{Call}
-use Rattle.cat_types.specs.declared.calls.Call.TheVariants.{AddPartition, AddPartitions, AddPartitionsReq, AlterDatabase, AlterPartition, AlterPartitions, AlterTable, AppendPartition, AppendPartitionByName, CreateDatabase, CreateTable, DropDatabase, DropPartition, DropPartitionByName, DropTable, GetAllDatabases, GetAllTables, GetCurrentNotificationEventId, GetDatabase, GetDatabases, GetFields, GetNextNotification, GetPartition, GetPartitionByName, GetPartitionNames, GetPartitionNamesPs, GetPartitions, GetPartitionsByNames, GetPartitionsPs, GetSchema, GetTable, GetTableObjectsByName, GetTableReq, GetTables, RenamePartition}
+use Rattle.cat_types.specs.declared.calls.Call.TheVariants.{AddPartition, AddPartitions, AddPartitionsReq, AlterDatabase, AlterPartition, AlterPartitions, AlterTable, AppendPartition, AppendPartitionByName, CreateDatabase, CreateTable, DeletePartitionColumnStatistics, DeleteTableColumnStatistics, DropDatabase, DropPartition, DropPartitionByName, DropTable, GetAllDatabases, GetAllTables, GetCurrentNotificationEventId, GetDatabase, GetDatabases, GetFields, GetNextNotification, GetNumPartitionsByFilter, GetPartition, GetPartitionByName, GetPartitionColumnStatistics, GetPartitionNames, GetPartitionNamesPs, GetPartitions, GetPartitionsByFilter, GetPartitionsByNames, GetPartitionsPs, GetSchema, GetTable, GetTableColumnStatistics, GetTableObjectsByName, GetTableReq, GetTableStatisticsReq, GetTables, RenamePartition, UpdatePartitionColumnStatistics, UpdateTableColumnStatistics}
 use Rattle.catalogue.specs.declared.poll.Poll.{Poll}
 use Rattle.catalogue.specs.declared.poll.Poll.TheVariants.{After, Newest}
 
@@ -40,5 +40,14 @@ poll_of (GetPartitionsByNames db table names) = None
 poll_of (AlterPartition db table part) = None
 poll_of (AlterPartitions db table parts) = None
 poll_of (RenamePartition db table values part) = None
+poll_of (GetPartitionsByFilter db name filter max) = None
+poll_of (GetNumPartitionsByFilter db name filter) = None
+poll_of (UpdateTableColumnStatistics new) = None
+poll_of (UpdatePartitionColumnStatistics new) = None
+poll_of (GetTableColumnStatistics db name col) = None
+poll_of (GetPartitionColumnStatistics db name called col) = None
+poll_of (DeleteTableColumnStatistics db name col) = None
+poll_of (DeletePartitionColumnStatistics db name called col) = None
+poll_of (GetTableStatisticsReq db name cols) = None
 poll_of (GetNextNotification last max) = Some (After last max)
 poll_of GetCurrentNotificationEventId = Some Newest

@@ -1,28 +1,27 @@
 -- Which calls are refused, what the others change, and what they result in.
-use Rattle.std.specs.Prelude.{ℕ, nat_lt, true, false, ◌&&◌, List, [], ◌∷◌, Option, None, Some, if◌then◌else◌}
+use Rattle.std.specs.Prelude.{ℕ, nat_lt, false, ◌&&◌, List, [], ◌∷◌, Option, None, Some, if◌then◌else◌, true}
 use Rattle.std.specs.Map.{keys_of}
-use Rattle.cat_values.specs.Names.{lower}
-use Rattle.cat_types.specs.declared.calls.Call.{Call}
-use Rattle.cat_types.specs.declared.calls.Call.TheVariants.{AddPartition, AddPartitions, AddPartitionsReq, AlterDatabase, AlterPartition, AlterPartitions, AlterTable, AppendPartition, AppendPartitionByName, CreateDatabase, CreateTable, DropDatabase, DropPartition, DropPartitionByName, DropTable, GetAllDatabases, GetAllTables, GetCurrentNotificationEventId, GetDatabase, GetDatabases, GetFields, GetNextNotification, GetPartition, GetPartitionByName, GetPartitionNames, GetPartitionNamesPs, GetPartitions, GetPartitionsByNames, GetPartitionsPs, GetSchema, GetTable, GetTableObjectsByName, GetTableReq, GetTables, RenamePartition}
-use Rattle.cat_types.specs.declared.changes.Change.{Change}
-use Rattle.cat_types.specs.declared.replies.Reply.{Reply}
-use Rattle.cat_types.specs.declared.replies.Reply.TheVariants.{Flag, Names, Nothing, Parts, Tables}
 use Rattle.cat_objects.specs.Catalogue.{Catalogue, database, table}
 use Rattle.cat_objects.specs.Changes.{has_operation}
-use Rattle.catalogue.specs.Databases.{Rule, alter_database_rules, create_database_rules, database_altered, database_created, database_dropped, drop_database_rules, get_database_rules, matching, shown_as}
-use Rattle.catalogue.specs.Decisions.{Decision, decided_by}
-use Rattle.catalogue.specs.PartChanges.{add_list_rules, add_partitions_rules, alter_partition_rules, alter_partitions_rules, append_partition_rules, appended_as, count_added, drop_partition_rules, list_change, list_told, partition_appended, partition_dropped, partition_renamed, partitions_added, parts_altered, rename_partition_rules, told_if}
-use Rattle.catalogue.specs.Partitions.{by_name, by_values, get_partition_rules, list_fitting_rules, list_partitions_rules, meant_as, meant_values, names_listed, parts_listed, parts_named}
-use Rattle.catalogue.specs.Tables.{alter_table_rules, columns_as, create_table_rules, drop_table_rules, get_columns_rules, get_table_req_rules, get_table_rules, schema_as, table_altered, table_as, table_created, table_dropped, table_names, tables_named}
-use Rattle.catalogue.specs.declared.bars.Bars.{Bars}
-use Rattle.catalogue.specs.declared.part_adds.Told.TheVariants as told
-use Rattle.catalogue.specs.declared.refusal.Refusal.{Refusal}
-use Rattle.catalogue.specs.declared.refusal.Refusal.TheVariants.{EventNumbersUsedUp}
-
--- the refusal of the first of these rules that is broken
-abbrev pub first_broken : List Rule → Option Refusal
-first_broken [] = None
-first_broken (rule ∷ rules) = if rule.0 then Some rule.1 else first_broken rules
+use Rattle.cat_types.specs.declared.calls.Call.TheVariants.{AddPartition, AddPartitions, AddPartitionsReq, AlterDatabase, AlterPartition, AlterPartitions, AlterTable, AppendPartition, AppendPartitionByName, CreateDatabase, CreateTable, DeletePartitionColumnStatistics, DeleteTableColumnStatistics, DropDatabase, DropPartition, DropPartitionByName, DropTable, GetAllDatabases, GetAllTables, GetCurrentNotificationEventId, GetDatabase, GetDatabases, GetFields, GetNextNotification, GetNumPartitionsByFilter, GetPartition, GetPartitionByName, GetPartitionColumnStatistics, GetPartitionNames, GetPartitionNamesPs, GetPartitions, GetPartitionsByFilter, GetPartitionsByNames, GetPartitionsPs, GetSchema, GetTable, GetTableColumnStatistics, GetTableObjectsByName, GetTableReq, GetTableStatisticsReq, GetTables, RenamePartition, UpdatePartitionColumnStatistics, UpdateTableColumnStatistics}
+use Rattle.cat_types.specs.declared.calls.Call.{Call}
+use Rattle.cat_types.specs.declared.changes.Change.{Change}
+use Rattle.cat_types.specs.declared.replies.Reply.TheVariants.{Nothing, Tables, Names, Parts, Flag}
+use Rattle.cat_types.specs.declared.replies.Reply.{Reply}
+use Rattle.cat_values.specs.Names.{lower}
+use Rattle.filter_rules.specs.Filters.{by_filter_rules, parts_counted, parts_fitting}
+use Rattle.part_rules.specs.PartChanges.{append_partition_rules, partition_appended, appended_as, add_list_rules, list_change, list_told, add_partitions_rules, partitions_added, count_added, told_if, drop_partition_rules, partition_dropped, alter_partition_rules, parts_altered, alter_partitions_rules, rename_partition_rules, partition_renamed}
+use Rattle.part_rules.specs.Partitions.{get_partition_rules, meant_as, list_partitions_rules, list_fitting_rules, parts_listed, names_listed, parts_named}
+use Rattle.part_rules.specs.declared.part_adds.Told.TheVariants as told
+use Rattle.rulings.specs.Decisions.{Decision, decided_by}
+use Rattle.rulings.specs.Meant.{by_values, by_name, meant_values}
+use Rattle.rulings.specs.Rules.{Rule, first_broken}
+use Rattle.rulings.specs.declared.bars.Bars.{Bars}
+use Rattle.rulings.specs.declared.refusal.Refusal.TheVariants.{EventNumbersUsedUp}
+use Rattle.rulings.specs.declared.refusal.Refusal.{Refusal}
+use Rattle.stat_rules.specs.Statistics.{delete_part_rules, delete_table_rules, get_part_stat_rules, get_stats_rules, get_table_stat_rules, part_deleted, part_stat, part_updated, requested_stats, table_deleted, table_stat, table_updated, update_part_rules, update_table_rules}
+use Rattle.table_rules.specs.Databases.{create_database_rules, database_created, get_database_rules, shown_as, matching, drop_database_rules, database_dropped, alter_database_rules, database_altered}
+use Rattle.table_rules.specs.Tables.{create_table_rules, table_created, drop_table_rules, table_dropped, alter_table_rules, table_altered, get_table_rules, get_table_req_rules, get_columns_rules, table_as, table_names, tables_named, columns_as, schema_as, requested_table}
 
 -- a call's own rules, in their order; a poll has none
 abbrev pub rules_of : Catalogue → Bars → Call → List Rule
@@ -59,6 +58,15 @@ rules_of cat bars (GetPartitionsByNames db name names) = list_partitions_rules c
 rules_of cat bars (AlterPartition db name part) = alter_partition_rules cat bars (lower db) (lower name) part
 rules_of cat bars (AlterPartitions db name parts) = alter_partitions_rules cat bars (lower db) (lower name) parts
 rules_of cat bars (RenamePartition db name values part) = rename_partition_rules cat bars (lower db) (lower name) values part
+rules_of cat bars (GetPartitionsByFilter db name filter max) = by_filter_rules cat (lower db) (lower name) filter
+rules_of cat bars (GetNumPartitionsByFilter db name filter) = by_filter_rules cat (lower db) (lower name) filter
+rules_of cat bars (UpdateTableColumnStatistics new) = update_table_rules cat bars new
+rules_of cat bars (UpdatePartitionColumnStatistics new) = update_part_rules cat bars new
+rules_of cat bars (GetTableColumnStatistics db name col) = get_table_stat_rules cat (lower db) (lower name) (lower col)
+rules_of cat bars (GetPartitionColumnStatistics db name called col) = get_part_stat_rules cat (lower db) (lower name) called (lower col)
+rules_of cat bars (DeleteTableColumnStatistics db name col) = delete_table_rules cat bars (lower db) (lower name) col
+rules_of cat bars (DeletePartitionColumnStatistics db name called col) = delete_part_rules cat bars (lower db) (lower name) called col
+rules_of cat bars (GetTableStatisticsReq db name cols) = get_stats_rules cat db name
 rules_of cat bars (GetNextNotification last max) = []
 rules_of cat bars GetCurrentNotificationEventId = []
 
@@ -97,14 +105,17 @@ change cat bars (GetPartitionsByNames db name names) moment next = None
 change cat bars (AlterPartition db name part) moment next = parts_altered cat (lower db) (lower name) (part ∷ []) moment
 change cat bars (AlterPartitions db name parts) moment next = parts_altered cat (lower db) (lower name) parts moment
 change cat bars (RenamePartition db name values part) moment next = Some (partition_renamed cat (lower db) (lower name) values part moment)
+change cat bars (GetPartitionsByFilter db name filter max) moment next = None
+change cat bars (GetNumPartitionsByFilter db name filter) moment next = None
+change cat bars (UpdateTableColumnStatistics new) moment next = table_updated cat new moment
+change cat bars (UpdatePartitionColumnStatistics new) moment next = part_updated cat new moment
+change cat bars (GetTableColumnStatistics db name col) moment next = None
+change cat bars (GetPartitionColumnStatistics db name called col) moment next = None
+change cat bars (DeleteTableColumnStatistics db name col) moment next = Some (table_deleted cat (lower db) (lower name) col)
+change cat bars (DeletePartitionColumnStatistics db name called col) moment next = Some (part_deleted cat (lower db) (lower name) called col)
+change cat bars (GetTableStatisticsReq db name cols) moment next = None
 change cat bars (GetNextNotification last max) moment next = None
 change cat bars GetCurrentNotificationEventId moment next = None
-
--- the table that was asked for by a request, where it is there
-abbrev pub requested_table : Catalogue → Option (List ℕ) → Option (List ℕ) → Reply
-requested_table cat None name = Nothing
-requested_table cat (Some db) None = Nothing
-requested_table cat (Some db) (Some name) = table_as (table cat (lower db) (lower name)) (lower db) (lower name)
 
 -- what an accepted call results in; nothing is said here of a poll, whose result isn't the catalogue's
 abbrev pub result_of : Catalogue → Bars → Call → ℕ → ℕ → Reply
@@ -141,6 +152,15 @@ result_of cat bars (GetPartitionsByNames db name names) moment next = Parts (par
 result_of cat bars (AlterPartition db name part) moment next = Nothing
 result_of cat bars (AlterPartitions db name parts) moment next = Nothing
 result_of cat bars (RenamePartition db name values part) moment next = Nothing
+result_of cat bars (GetPartitionsByFilter db name filter max) moment next = parts_fitting cat (lower db) (lower name) filter max
+result_of cat bars (GetNumPartitionsByFilter db name filter) moment next = parts_counted cat (lower db) (lower name) filter
+result_of cat bars (UpdateTableColumnStatistics new) moment next = Flag true
+result_of cat bars (UpdatePartitionColumnStatistics new) moment next = Flag true
+result_of cat bars (GetTableColumnStatistics db name col) moment next = table_stat cat (lower db) (lower name) (lower col)
+result_of cat bars (GetPartitionColumnStatistics db name called col) moment next = part_stat cat (lower db) (lower name) called (lower col)
+result_of cat bars (DeleteTableColumnStatistics db name col) moment next = Flag true
+result_of cat bars (DeletePartitionColumnStatistics db name called col) moment next = Flag true
+result_of cat bars (GetTableStatisticsReq db name cols) moment next = requested_stats cat db name cols
 result_of cat bars (GetNextNotification last max) moment next = Nothing
 result_of cat bars GetCurrentNotificationEventId moment next = Nothing
 

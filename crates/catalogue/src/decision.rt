@@ -1,37 +1,31 @@
 //! What a call is refused for, changes and results in.
 
-ghost use Rattle.std.specs.Prelude.{◌≡◌, [], ◌∷◌, IfOk, None, Some, true};
+ghost use Rattle.std.specs.Prelude.{◌≡◌, None, Some, true};
 ghost use Rattle.cat_objects.specs.Changes.{takes_call};
-ghost use Rattle.catalogue.specs.Decisions.{Decides, IfChange, decided_by, refused};
+ghost use Rattle.rulings.specs.Decisions.{Decides, IfChange, decided_by};
 ghost use Rattle.catalogue.specs.Polls.{poll_of};
 ghost use Rattle.catalogue.specs.Rules.{decision, lacks_number, ruled};
 
-use crate::databases::{
-    alter_database, create_database, drop_database, get_all_databases, get_database, get_databases,
+use cat_objects::{Cat, LAST_EVENT};
+use cat_types::{Call, Change, Reply};
+use filter_rules::{get_num_partitions_by_filter, get_partitions_by_filter};
+use part_rules::{
+    add_partition, add_partitions, add_requested, alter_partition, alter_partitions,
+    append_partition, drop_partition, get_partition, get_partition_names, get_partition_names_ps,
+    get_partitions, get_partitions_by_names, get_partitions_ps, rename_partition,
 };
-use crate::meant::Meant;
-use crate::part_adds::{add_partition, add_partitions, add_requested, append_partition};
-use crate::part_changes::{alter_partition, alter_partitions, drop_partition, rename_partition};
-use crate::part_reads::{
-    get_partition, get_partition_names, get_partition_names_ps, get_partitions,
-    get_partitions_by_names, get_partitions_ps,
+use rulings::{Bars, Decided, Meant, Refusal, refused};
+use stat_rules::{
+    delete_partition_column_statistics, delete_table_column_statistics,
+    get_partition_column_statistics, get_table_column_statistics, get_table_statistics_req,
+    update_partition_column_statistics, update_table_column_statistics,
 };
-use crate::table_changes::{decide_alter_table, decide_create_table, decide_drop_table};
-use crate::table_reads::{
-    get_all_tables, get_fields, get_schema, get_table, get_table_req, get_tables, get_tables_named,
-};
-use crate::{Bars, Cat, Decided, LAST_EVENT, Refusal};
-use cat_types::{Call, Change, EventKind, ListOf, NoMemory, Op, Reply, Text};
 use std::alloc::Global;
-
-/// How many databases a store has at most.
-pub const DATABASE_LIMIT: u64 = 1_000_000;
-
-/// How many tables a database has at most.
-pub const TABLE_LIMIT: u64 = 1_000_000;
-
-/// How many partitions a table has at most.
-pub const PARTITION_LIMIT: u64 = 1_000_000;
+use table_rules::{
+    alter_database, alter_table, create_database, create_table, drop_database, drop_table,
+    get_all_databases, get_all_tables, get_database, get_databases, get_fields, get_schema,
+    get_table, get_table_req, get_tables, get_tables_named,
+};
 
 /// Decides a call over a catalogue: its refusal, or its change and its result. It needs a call that
 /// is no poll. `bars` says what bars changes, `moment` is the time in seconds since 1970, and `next`
@@ -93,17 +87,15 @@ fn decide_by_rules(
         Call::DropDatabase { name, cascade } => drop_database(alloc, cat, bars, name, *cascade),
         Call::GetDatabases { pattern } => get_databases(alloc, cat, pattern),
         Call::AlterDatabase { name, db } => alter_database(alloc, cat, bars, name, db),
-        Call::CreateTable { table } => decide_create_table(alloc, cat, bars, table, moment, next),
-        Call::DropTable { db, table } => decide_drop_table(
-            alloc, cat, bars, db, table, moment, next,
-        ),
+        Call::CreateTable { table } => create_table(alloc, cat, bars, table, moment, next),
+        Call::DropTable { db, table } => drop_table(alloc, cat, bars, db, table),
         Call::GetTables { db, pattern } => get_tables(alloc, cat, db, pattern),
         Call::GetAllTables { db } => get_all_tables(alloc, cat, db),
         Call::GetTable { db, table } => get_table(alloc, cat, db, table),
         Call::GetTableReq { db, table } => get_table_req(alloc, cat, db, table),
         Call::GetTableObjectsByName { db, tables } => get_tables_named(alloc, cat, db, tables),
         Call::AlterTable { db, table, new } => {
-            decide_alter_table(alloc, cat, bars, db, table, new, moment, next)
+            alter_table(alloc, cat, bars, db, table, new, moment)
         }
         Call::GetFields { db, table } => get_fields(alloc, cat, db, table),
         Call::GetSchema { db, table } => get_schema(alloc, cat, db, table),
@@ -176,36 +168,43 @@ fn decide_by_rules(
             values,
             part,
         } => rename_partition(alloc, cat, bars, db, table, values, part, moment),
+        Call::GetPartitionsByFilter {
+            db,
+            table,
+            filter,
+            max,
+        } => get_partitions_by_filter(alloc, cat, db, table, filter, *max),
+        Call::GetNumPartitionsByFilter { db, table, filter } => {
+            get_num_partitions_by_filter(alloc, cat, db, table, filter)
+        }
+        Call::UpdateTableColumnStatistics { stats } => {
+            update_table_column_statistics(alloc, cat, bars, stats, moment)
+        }
+        Call::UpdatePartitionColumnStatistics { stats } => {
+            update_partition_column_statistics(alloc, cat, bars, stats, moment)
+        }
+        Call::GetTableColumnStatistics { db, table, col } => {
+            get_table_column_statistics(alloc, cat, db, table, col)
+        }
+        Call::GetPartitionColumnStatistics {
+            db,
+            table,
+            part,
+            col,
+        } => get_partition_column_statistics(alloc, cat, db, table, part, col),
+        Call::DeleteTableColumnStatistics { db, table, col } => {
+            delete_table_column_statistics(alloc, cat, bars, db, table, col)
+        }
+        Call::DeletePartitionColumnStatistics {
+            db,
+            table,
+            part,
+            col,
+        } => delete_partition_column_statistics(alloc, cat, bars, db, table, part, col),
+        Call::GetTableStatisticsReq { db, table, cols } => {
+            get_table_statistics_req(alloc, cat, db, table, cols)
+        }
         Call::GetNextNotification { last: _, max: _ } => unreachable!(),
         Call::GetCurrentNotificationEventId => unreachable!(),
-    }
-}
-
-// A change with one operation.
-pub(crate) fn one_op(
-    alloc: Global,
-    kind: EventKind,
-    db: Text,
-    db_born: u64,
-    op: Op,
-) -> Result<Change, NoMemory>
-    ensures { IfOk result (λ made. made ≡ record { kind = kind; db = db; db_born = db_born; ops = op ∷ [] }) }
-{
-    let ops = ListOf::from_vec(vec![in alloc; op]?)?;
-    Ok(Change {
-        kind,
-        db,
-        db_born,
-        ops,
-    })
-}
-
-// Tells a refusal.
-pub(crate) fn refused(alloc: Global, refusal: Refusal) -> Decided
-    ensures { Decides (refused refusal) result }
-{
-    match Text::of(alloc, refusal.text()) {
-        Ok(text) => Decided::Reply(Reply::Refused(refusal.number(), text)),
-        Err(_) => Decided::NoMemory,
     }
 }

@@ -1,27 +1,14 @@
-//! The catalogue: what each call is refused for, changes and results in. How a change is done stands
-//! in `cat_objects`, whose types this crate hands on.
+//! The catalogue: what each call is refused for, changes and results in. The rules of the calls
+//! stand in the crates below, by what the calls are about; how a change is done stands in
+//! `cat_objects`. This crate hands their types on.
 #![tactic(auto)]
 
-mod bars;
-mod databases;
-mod decided;
 mod decision;
-mod meant;
-mod new_parts;
-mod part_adds;
-mod part_changes;
-mod part_reads;
-mod part_site;
-mod part_values;
 mod poll;
-mod refusal;
-mod showing;
-mod table_changes;
-mod table_reads;
 
-pub use bars::{Bars, ReplicaAt, ReplicaAts};
 pub use cat_objects::{Cat, HeldDb, HeldParts, HeldTable, LAST_EVENT, Placed};
-pub use decided::Decided;
-pub use decision::{DATABASE_LIMIT, PARTITION_LIMIT, TABLE_LIMIT, decide};
+pub use decision::decide;
+pub use part_rules::PARTITION_LIMIT;
 pub use poll::{Poll, poll_of};
-pub use refusal::Refusal;
+pub use rulings::{Bars, Decided, Refusal, ReplicaAt, ReplicaAts};
+pub use table_rules::{DATABASE_LIMIT, TABLE_LIMIT};

@@ -125,6 +125,46 @@ pub fn poll_of(call: &Call) -> Option<Poll>
             values: _,
             part: _,
         } => None,
+        Call::GetPartitionsByFilter {
+            db: _,
+            table: _,
+            filter: _,
+            max: _,
+        } => None,
+        Call::GetNumPartitionsByFilter {
+            db: _,
+            table: _,
+            filter: _,
+        } => None,
+        Call::UpdateTableColumnStatistics { stats: _ } => None,
+        Call::UpdatePartitionColumnStatistics { stats: _ } => None,
+        Call::GetTableColumnStatistics {
+            db: _,
+            table: _,
+            col: _,
+        } => None,
+        Call::GetPartitionColumnStatistics {
+            db: _,
+            table: _,
+            part: _,
+            col: _,
+        } => None,
+        Call::DeleteTableColumnStatistics {
+            db: _,
+            table: _,
+            col: _,
+        } => None,
+        Call::DeletePartitionColumnStatistics {
+            db: _,
+            table: _,
+            part: _,
+            col: _,
+        } => None,
+        Call::GetTableStatisticsReq {
+            db: _,
+            table: _,
+            cols: _,
+        } => None,
         Call::GetNextNotification { last, max } => Some(Poll::After {
             last: *last,
             max: *max,

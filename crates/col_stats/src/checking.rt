@@ -33,6 +33,19 @@ pub fn check(cols: &Columns, keys: &Columns, col: &Text, value: &StatValue) -> R
 {
     let key = find_column(keys.as_slice(), col);
     let column = find_column(cols.as_slice(), col);
+    check_found(key, column, value)
+}
+
+/// The same where the key and the column with the name were looked for already: `key` and `column` are
+/// the first of each that has it. It takes no memory.
+pub fn check_found(
+    key: Option<&Column>,
+    column: Option<&Column>,
+    value: &StatValue,
+) -> Result<(), StatFault>
+    ensures rule { IsFirstBroken (option_copied key.entry) (option_copied column.entry) value.now result }
+    ensures test { result_err result ≡ first_fault (option_copied key.entry) (option_copied column.entry) value.now }
+{
     first_broken(key, column, value)
 }
 

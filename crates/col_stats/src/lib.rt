@@ -4,5 +4,5 @@
 mod checking;
 mod keeping;
 
-pub use checking::{StatFault, check};
+pub use checking::{StatFault, check, check_found};
 pub use keeping::{put, remove};

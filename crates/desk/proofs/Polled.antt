@@ -1,7 +1,7 @@
 -- Polls write nothing; which events are above a number below 0.
 use Rattle.std.proofs.Common.{◌≡◌, refl, sym, ap, ◌∙◌, ℕ, ◌<◌, ℤ, pos, negsuc, ◌<ℤ◌, List, [], ◌∷◌, arith}
 use Rattle.std.proofs.lemmas.Int.{ints}
-use Rattle.cat_types.specs.declared.calls.Call.TheVariants.{AddPartition, AddPartitions, AddPartitionsReq, AlterDatabase, AlterPartition, AlterPartitions, AlterTable, AppendPartition, AppendPartitionByName, CreateDatabase, CreateTable, DropDatabase, DropPartition, DropPartitionByName, DropTable, GetAllDatabases, GetAllTables, GetCurrentNotificationEventId, GetDatabase, GetDatabases, GetFields, GetNextNotification, GetPartition, GetPartitionByName, GetPartitionNames, GetPartitionNamesPs, GetPartitions, GetPartitionsByNames, GetPartitionsPs, GetSchema, GetTable, GetTableObjectsByName, GetTableReq, GetTables, RenamePartition}
+use Rattle.cat_types.specs.declared.calls.Call.TheVariants.{AddPartition, AddPartitions, AddPartitionsReq, AlterDatabase, AlterPartition, AlterPartitions, AlterTable, AppendPartition, AppendPartitionByName, CreateDatabase, CreateTable, DeletePartitionColumnStatistics, DeleteTableColumnStatistics, DropDatabase, DropPartition, DropPartitionByName, DropTable, GetAllDatabases, GetAllTables, GetCurrentNotificationEventId, GetDatabase, GetDatabases, GetFields, GetNextNotification, GetNumPartitionsByFilter, GetPartition, GetPartitionByName, GetPartitionColumnStatistics, GetPartitionNames, GetPartitionNamesPs, GetPartitions, GetPartitionsByFilter, GetPartitionsByNames, GetPartitionsPs, GetSchema, GetTable, GetTableColumnStatistics, GetTableObjectsByName, GetTableReq, GetTableStatisticsReq, GetTables, RenamePartition, UpdatePartitionColumnStatistics, UpdateTableColumnStatistics}
 use Rattle.cat_types.specs.declared.changes.Event.{Event}
 use Rattle.desk.specs.Laws.{PollsWriteNothing}
 use Rattle.desk.specs.Polls.{events_beyond}
@@ -42,6 +42,15 @@ write_nothing s (GetPartitionsByNames db name names) moment is = absurd cc
 write_nothing s (AlterPartition db name part) moment is = absurd cc
 write_nothing s (AlterPartitions db name parts) moment is = absurd cc
 write_nothing s (RenamePartition db name values part) moment is = absurd cc
+write_nothing s (GetPartitionsByFilter db name filter max) moment is = absurd cc
+write_nothing s (GetNumPartitionsByFilter db name filter) moment is = absurd cc
+write_nothing s (UpdateTableColumnStatistics new) moment is = absurd cc
+write_nothing s (UpdatePartitionColumnStatistics new) moment is = absurd cc
+write_nothing s (GetTableColumnStatistics db name col) moment is = absurd cc
+write_nothing s (GetPartitionColumnStatistics db name called col) moment is = absurd cc
+write_nothing s (DeleteTableColumnStatistics db name col) moment is = absurd cc
+write_nothing s (DeletePartitionColumnStatistics db name called col) moment is = absurd cc
+write_nothing s (GetTableStatisticsReq db name cols) moment is = absurd cc
 write_nothing s (GetNextNotification last max) moment is = refl
 write_nothing s GetCurrentNotificationEventId moment is = refl
 

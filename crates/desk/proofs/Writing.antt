@@ -5,7 +5,7 @@ use Rattle.cat_types.specs.declared.changes.Change.{Change}
 use Rattle.cat_types.specs.declared.steps.Step.{Step}
 use Rattle.cat_types.specs.declared.steps.Step.TheVariants.{Client}
 use Rattle.cat_objects.specs.Changes.{has_operation}
-use Rattle.catalogue.specs.Decisions.{Decision, accepted, refused}
+use Rattle.rulings.specs.Decisions.{Decision, accepted, refused}
 use Rattle.desk.specs.Laws.{WritesWhereTheDisksChange}
 use Rattle.desk.specs.State.{State, Written, decision_of, due, durable, event_in, event_of, kept, next_event, with_written, writes, writing, written_by, written_change}
 

@@ -10,11 +10,11 @@ use Rattle.cat_types.specs.declared.steps.Step.{Step}
 use Rattle.cat_types.specs.declared.steps.Step.TheVariants.{Client}
 use Rattle.cat_objects.specs.Catalogue.{Catalogue, new_catalogue}
 use Rattle.cat_objects.specs.Changes.{done, has_operation}
-use Rattle.catalogue.specs.Decisions.{Decision, accepted, refused}
+use Rattle.rulings.specs.Decisions.{Decision, accepted, refused}
 use Rattle.catalogue.specs.Polls.{poll_of}
-use Rattle.catalogue.specs.Refusals.{refusal_reply}
+use Rattle.rulings.specs.Refusals.{refusal_reply}
 use Rattle.catalogue.specs.Rules.{decision}
-use Rattle.catalogue.specs.declared.bars.Bars.{Bars}
+use Rattle.rulings.specs.declared.bars.Bars.{Bars}
 use Rattle.catalogue.specs.declared.poll.Poll.{Poll}
 use Rattle.desk.specs.Polls.{poll_reply}
 use Rattle.hms_outside.specs.Causes.{Rose}

@@ -9,12 +9,12 @@ use Rattle.cat_types.specs.declared.steps.Answer.TheVariants as answer
 use Rattle.cat_types.specs.declared.steps.Step.TheVariants.{Client}
 use Rattle.cat_objects.specs.Catalogue.{Catalogue}
 use Rattle.cat_objects.specs.Changes.{are_puts, are_some, has_operation, is_any, is_one, takes_call, takes_change}
-use Rattle.catalogue.specs.Decisions.{Decides, Decision, accepted, refused, told}
+use Rattle.rulings.specs.Decisions.{Decides, Decision, accepted, refused, told}
 use Rattle.catalogue.specs.Polls.{poll_of}
 use Rattle.catalogue.specs.Rules.{decision}
-use Rattle.catalogue.specs.declared.bars.Bars.{Bars}
-use Rattle.catalogue.specs.declared.decided.Decided.{Decided}
-use Rattle.catalogue.specs.declared.decided.Decided.TheVariants as decided
+use Rattle.rulings.specs.declared.bars.Bars.{Bars}
+use Rattle.rulings.specs.declared.decided.Decided.{Decided}
+use Rattle.rulings.specs.declared.decided.Decided.TheVariants as decided
 use Rattle.catalogue.specs.declared.poll.Poll.{Poll}
 use Rattle.desk.specs.Polls.{poll_reply}
 use Rattle.desk.specs.State.{State, Written, bars_of, decision_of, due, kept, next_event, reply_by, reply_in, with_written, writing, written_by, written_change}

@@ -3,7 +3,7 @@
 ghost use Rattle.std.specs.Prelude.{◌≡◌, ◌<◌, ◌≤◌, ◌+◌, ◌++◌, ◌∷◌, [], true, Ok, IfOk, MatchResult, None, OnErr, OnOk, Some};
 ghost use Rattle.cat_types.specs.declared.steps.Step.TheVariants.{Client};
 ghost use Rattle.cat_objects.specs.Changes.{takes_call, takes_change};
-ghost use Rattle.catalogue.specs.Decisions.{Decides, IfChange};
+ghost use Rattle.rulings.specs.Decisions.{Decides, IfChange};
 ghost use Rattle.catalogue.specs.Polls.{poll_of};
 ghost use Rattle.desk.specs.Polls.{poll_reply};
 ghost use Rattle.desk.specs.State.{decision_of, kept, next_event, start, with_written};

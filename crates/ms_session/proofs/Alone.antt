@@ -30,16 +30,19 @@ use Rattle.cat_objects.specs.Catalogue.{Catalogue, at_name, database, has_databa
 use Rattle.cat_objects.specs.Changes.{changed_in, changed_parts, done, done_op, done_ops, has_operation, moved_table, put_table, with_tables, without_table}
 use Rattle.cat_objects.specs.Parts.{PartList, moved_part, put_part, without_part}
 use Rattle.cat_values.specs.declared.records.PartRec.{PartRec}
-use Rattle.catalogue.specs.Databases.{Rule, alter_database_rules, database_altered, database_dropped, drop_database_rules, kept_name, matching}
-use Rattle.catalogue.specs.Decisions.{decided_by}
-use Rattle.catalogue.specs.PartChanges.{all_altered, appended, list_added, list_change, ops_under, part_change, partition_appended, partition_dropped, partition_renamed, partitions_added, parts_altered, parts_put, renaming, revalues}
-use Rattle.catalogue.specs.Partitions.{by_name, by_values, meant_values}
-use Rattle.catalogue.specs.Rules.{breaks, first_broken, first_refusal, lacks_number, refusal, result_of, rules_of}
-use Rattle.catalogue.specs.Tables.{renames, table_altered, table_born, table_created, table_dropped, table_put}
-use Rattle.catalogue.specs.declared.bars.Bars.{Bars}
+use Rattle.rulings.specs.Rules.{Rule, first_broken}
+use Rattle.table_rules.specs.Databases.{alter_database_rules, database_altered, database_dropped, drop_database_rules, matching}
+use Rattle.rulings.specs.Names.{kept_name}
+use Rattle.rulings.specs.Decisions.{decided_by}
+use Rattle.part_rules.specs.PartChanges.{all_altered, appended, list_added, list_change, ops_under, partition_appended, partition_dropped, partition_renamed, partitions_added, parts_altered, parts_put, renaming, revalues}
+use Rattle.rulings.specs.Changes.{part_change, table_born}
+use Rattle.rulings.specs.Meant.{by_name, by_values, meant_values}
+use Rattle.catalogue.specs.Rules.{breaks, first_refusal, lacks_number, refusal, result_of, rules_of}
+use Rattle.table_rules.specs.Tables.{renames, table_altered, table_created, table_dropped, table_put}
+use Rattle.rulings.specs.declared.bars.Bars.{Bars}
 use Rattle.cat_objects.specs.declared.held.HeldDb.{HeldDb}
 use Rattle.cat_objects.specs.declared.held.HeldTable.{HeldTable}
-use Rattle.catalogue.specs.declared.refusal.Refusal.{Refusal}
+use Rattle.rulings.specs.declared.refusal.Refusal.{Refusal}
 use Rattle.desk.specs.History.{Entry, IsLegal, MayFollow, Point, next, point_of, took}
 use Rattle.desk.specs.State.{State, MayAnswer, bars_of, due as due_in, kept, next_event, start, state_after_answer, with_written, writes, written_by}
 use Rattle.ms_calls.specs.declared.request.Asked.{Asked}

@@ -17,18 +17,24 @@ use Rattle.cat_objects.specs.Catalogue.{Catalogue, database, has_database, has_t
 use Rattle.cat_objects.specs.Changes.{has_operation}
 use Rattle.cat_objects.specs.Parts.{at_values}
 use Rattle.cat_objects.specs.declared.held.HeldTable.{HeldTable}
-use Rattle.catalogue.specs.Databases.{Rule, is_replica, kept_name, shown_as}
-use Rattle.catalogue.specs.Decisions.{decided_by}
-use Rattle.catalogue.specs.PartChanges.{add_list_rules, add_partitions_rules, append_partition_rules, appended, appended_as, behind, count_added, each_added_rules, each_altered_rules, is_elsewhere, is_full, is_taken, list_told, may_have, new_part_rules, one_added_rules, told_if}
-use Rattle.catalogue.specs.Partitions.{Meaning, all_named, by_name, by_values, holds_meant, may_mean, meant_values, part_as, stored_values, table_keys}
+use Rattle.rulings.specs.Rules.{Rule, first_broken}
+use Rattle.rulings.specs.Bars.{is_replica}
+use Rattle.rulings.specs.Names.{kept_name, names_database, names_table}
+use Rattle.table_rules.specs.Databases.{shown_as}
+use Rattle.rulings.specs.Decisions.{decided_by}
+use Rattle.part_rules.specs.PartChanges.{add_list_rules, add_partitions_rules, append_partition_rules, appended, appended_as, behind, count_added, each_added_rules, each_altered_rules, is_elsewhere, is_full, is_taken, list_told, new_part_rules, one_added_rules, told_if}
+use Rattle.rulings.specs.Changes.{may_have}
+use Rattle.rulings.specs.Meant.{Meaning, by_name, by_values, holds_meant, may_mean, meant_values, stored_values, table_keys}
+use Rattle.rulings.specs.Listed.{all_named}
+use Rattle.part_rules.specs.Partitions.{part_as}
 use Rattle.catalogue.specs.Polls.{poll_of}
-use Rattle.catalogue.specs.Refusals.{refusal_reply}
-use Rattle.catalogue.specs.Rules.{breaks, change, first_broken, first_refusal, lacks_number, requested_table, result_of, rules_of}
-use Rattle.catalogue.specs.Tables.{columns_as, get_table_req_rules, names_database, names_table, schema_as, table_as}
-use Rattle.catalogue.specs.declared.bars.Bars.{Bars}
+use Rattle.rulings.specs.Refusals.{refusal_reply}
+use Rattle.catalogue.specs.Rules.{breaks, change, first_refusal, lacks_number, result_of, rules_of}
+use Rattle.table_rules.specs.Tables.{columns_as, get_table_req_rules, requested_table, schema_as, table_as}
+use Rattle.rulings.specs.declared.bars.Bars.{Bars}
 use Rattle.catalogue.specs.declared.poll.Poll.{Poll}
-use Rattle.catalogue.specs.declared.refusal.Refusal.{Refusal}
-use Rattle.catalogue.specs.declared.refusal.Refusal.TheVariants.{AlreadyExists, EventNumbersUsedUp, InvalidObject, InvalidOperation, InvalidRequest, IsReplica, NoSuchObject}
+use Rattle.rulings.specs.declared.refusal.Refusal.{Refusal}
+use Rattle.rulings.specs.declared.refusal.Refusal.TheVariants.{AlreadyExists, EventNumbersUsedUp, InvalidObject, InvalidOperation, InvalidRequest, IsReplica, NoSuchObject}
 use Rattle.desk.specs.History.{Entry, IsLegal, Legal, MayFollow, Point, Start, next, point_of, took}
 use Rattle.desk.specs.State.{MayAnswer, State, bars_of, decision_of, reply_by, reply_in as due_reply}
 use Rattle.ms_calls.specs.declared.method.Method.{Method}

@@ -5,7 +5,7 @@ use Rattle.hms_outside.specs.Told.{Goes}
 use Rattle.cat_types.specs.declared.calls.Call.TheVariants.{AddPartition, AddPartitions, AddPartitionsReq, AlterDatabase, AlterPartition, AlterPartitions, AlterTable, AppendPartition, AppendPartitionByName, CreateDatabase, CreateTable, DropDatabase, DropPartition, DropPartitionByName, DropTable, GetAllDatabases, GetAllTables, GetCurrentNotificationEventId, GetDatabase, GetDatabases, GetFields, GetNextNotification, GetPartition, GetPartitionByName, GetPartitionNames, GetPartitionNamesPs, GetPartitions, GetPartitionsByNames, GetPartitionsPs, GetSchema, GetTable, GetTableObjectsByName, GetTableReq, GetTables, RenamePartition}
 use Rattle.cat_types.specs.declared.replies.Reply.{Reply}
 use Rattle.cat_types.specs.declared.replies.Reply.TheVariants.{Names}
-use Rattle.catalogue.specs.Databases.{matching}
+use Rattle.table_rules.specs.Databases.{matching}
 use Rattle.desk.specs.History.{Entry, Legal}
 use Rattle.desk.specs.State.{start}
 use Rattle.thrift_binary.specs.Messages.{Message, Ending, Boundary, Spells, Truncated as TruncatedAt, Bad_at, Large_at}

@@ -1,6 +1,0 @@
-use Rattle.std.proofs.Common.{◌≡◌, take}
-use Rattle.catalogue.specs.Partitions.{stored_values}
-use Rattle.catalogue.proofs.meant.stored_copy.Given as goal
-
-abbrev pub invariant-loop-value : goal.invariant-loop-value
-invariant-loop-value l = l.made.items ≡ stored_values (take l.value-index l.values)

@@ -1,6 +1,0 @@
-use Rattle.std.proofs.Common.{◌≡◌, ◌++◌, drop}
-use Rattle.catalogue.specs.Partitions.{key_names}
-use Rattle.catalogue.proofs.part_reads.key_names.Given as goal
-
-abbrev pub invariant-loop-key : goal.invariant-loop-key
-invariant-loop-key l = l.names ++ key_names (drop l.key-index l.keys) ≡ key_names l.keys

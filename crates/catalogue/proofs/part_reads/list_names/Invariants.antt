@@ -1,7 +1,0 @@
-use Rattle.std.proofs.Common.{◌≡◌, ◌++◌, length}
-use Rattle.catalogue.specs.Partitions.{listed, own_names}
-use Rattle.catalogue.proofs.Listing.{listed_behind}
-use Rattle.catalogue.proofs.part_reads.list_names.Given as goal
-
-abbrev pub invariant-loop-values : goal.invariant-loop-values
-invariant-loop-values l = l.names ++ own_names l.held.rec.keys (listed_behind (length l.names) l.wanted l.max l.values-iterator) ≡ own_names l.held.rec.keys (listed l.wanted l.max l.held.parts)

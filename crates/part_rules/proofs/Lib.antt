@@ -1,0 +1,6 @@
+pub mod Listing
+pub mod Adding
+pub mod AddingHere
+pub mod Renaming
+pub mod Holding
+pub mod DecidingParts

@@ -1,0 +1,4 @@
+pub mod Cutting
+pub mod Rules
+pub mod Sets
+pub mod Listing

@@ -1,0 +1,4 @@
+pub mod Finding
+pub mod Asking
+pub mod Passing
+pub mod DecidingStats

@@ -1,0 +1,16 @@
+use Rattle.std.proofs.Common.{◌≡◌, Some, false, rules}
+use Rattle.cat_types.specs.declared.changes.EventKind.TheVariants as kind
+use Rattle.cat_objects.specs.Catalogue.{at_name, database}
+use Rattle.rulings.specs.Bars.{is_replica}
+use Rattle.stat_rules.specs.Records.{without_stats}
+use Rattle.stat_rules.specs.Statistics.{delete_at_rules, table_given}
+use Rattle.stat_rules.proofs.Passing.{decided_in}
+use Rattle.stat_rules.proofs.table_calls.delete_at_table.Goals as goal
+
+pub returns : goal.returns
+returns c =
+    let there : database c.args.cat.now c.args.db.now ≡ Some c.in-Some.within.now = search rules in
+    let free : is_replica c.args.bars.now c.args.db.now ≡ false = search rules in
+    let inside : at_name c.args.name.now c.in-Some.within.now.tables ≡ Some c.in-Some-get.held.now = search rules in
+    decided_in c.args.cat.now c.args.bars.now c.in-Some.within.now c.in-Some-get.held.now kind.AlterTable Some c.delete_here.result c.args.db.now c.args.name.now there free inside
+    (λ t. delete_at_rules t c.args.name.now c.args.col.now) (λ t. table_given t c.args.name.now (without_stats c.args.col.now)) c.delete_here.ensures

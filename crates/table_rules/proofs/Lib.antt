@@ -1,0 +1,3 @@
+pub mod Asking
+pub mod DecidingTables
+pub mod DecidingDatabases
