@@ -1,19 +1,19 @@
 //! The partitions of a table, by their values.
 
-ghost use Rattle.std.specs.Prelude.{◌≡◌, [], length, OnErr, OnOk};
+ghost use Rattle.std.specs.Prelude.{◌≡◌, [], filter, length, OnErr, OnOk};
 ghost use Rattle.std.specs.BTreeMap.{insert_entry, is_at};
 ghost use Rattle.std.specs.Cmp.Lexicographic.{slice_cmp};
 ghost use Rattle.std.specs.List.{find};
 ghost use Rattle.std.specs.List.Sorted.{IsStrictlySortedBy};
 ghost use Rattle.std.specs.Map.{keys_of, lookup, set_value};
 ghost use Rattle.std.specs.Option.{option_copied, option_map};
-ghost use Rattle.std.specs.Ordering.{is_lt, nat_cmp};
-ghost use Rattle.cat_objects.specs.Parts.{are_values, at_values, first_after, without_part};
+ghost use Rattle.std.specs.Ordering.{is_le, is_lt, nat_cmp};
+ghost use Rattle.cat_objects.specs.Parts.{are_values, at_values, first_after, parts_from, without_part};
 
 use cat_types::{NoMemory, PartRec, Texts};
 use std::alloc::Global;
 use std::collections::BTreeMap;
-use std::collections::btree_map::Iter;
+use std::collections::btree_map::{Iter, Range};
 use std::marker::Model;
 use std::mem;
 use std::ops::Bound;
@@ -75,6 +75,15 @@ impl HeldParts {
         }
     }
 
+    /// The partitions whose values aren't below these, in rising order of their values. It takes no
+    /// memory.
+    pub fn starting_at(&self, first: &Texts) -> Range<'_, Texts, PartRec>
+        ensures pairs { result ≡ parts_from first.now self.now }
+        ensures sorted { IsStrictlySortedBy (slice_cmp (slice_cmp nat_cmp)) (keys_of self.now) }
+    {
+        not_below(&self.inner, first)
+    }
+
     /// Puts a partition, over the one with its values where there is one. After `NoMemory` they are
     /// as before.
     pub fn put(&mut self, values: Texts, rec: PartRec) -> Result<(), NoMemory>
@@ -108,6 +117,14 @@ fn first_above<'a, K: Ord, V>(inner: &'a BTreeMap<K, V>, key: &K) -> Option<(&'a
     ensures { option_map (λ found. (found.0.now, found.1.now)) result ≡ find (λ entry. is_lt (K.cmp key.now entry.0)) inner.now.entries }
 {
     inner.range((Bound::Excluded(key), Bound::Unbounded)).next()
+}
+
+// The pairs whose keys aren't below this one.
+fn not_below<'a, K: Ord, V>(inner: &'a BTreeMap<K, V>, key: &K) -> Range<'a, K, V>
+    ensures pairs { result ≡ filter (λ entry. is_le (K.cmp key.now entry.0)) inner.now.entries }
+    ensures sorted { IsStrictlySortedBy K.cmp (keys_of inner.now.entries) }
+{
+    inner.range((Bound::Included(key), Bound::Unbounded))
 }
 
 // Puts a value in the place of the one at a key, and gives that one. Without that key the map stays as

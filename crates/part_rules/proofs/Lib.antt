@@ -1,4 +1,5 @@
 pub mod Listing
+pub mod Seeking
 pub mod Adding
 pub mod AddingHere
 pub mod Renaming

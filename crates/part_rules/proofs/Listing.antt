@@ -1,5 +1,5 @@
 -- A listing stops at its number.
-use Rattle.std.proofs.Common.{◌≡◌, ℕ, ◌-◌, ℤ, pos, negsuc, true, false, List, [], ◌∷◌, ◌++◌, length, filter, refl, sym, ap, ◌∙◌, append-nil}
+use Rattle.std.proofs.Common.{◌≡◌, ℕ, ℤ, true, false, List, [], ◌∷◌, ◌++◌, length, filter, sym, ap, ◌∙◌}
 use Rattle.cat_values.specs.declared.records.PartRec.{PartRec}
 use Rattle.cat_objects.specs.Parts.{PartList}
 use Rattle.cat_types.specs.declared.named.NamedPart.{NamedPart}
@@ -8,7 +8,7 @@ use Rattle.rulings.specs.Listed.{all_named, has_reached, named_part}
 use Rattle.part_rules.specs.Partitions.{begin_with, own_names}
 use Rattle.rulings.specs.Meant.{key_names}
 use Rattle.part_names.specs.Making.{part_name}
-use Rattle.rulings.proofs.Listing.{first_behind, take_empty, told_one}
+use Rattle.rulings.proofs.Listing.{first_behind, told_one}
 
 -- what is still wanted of those that begin so, where so many were told
 abbrev pub listed_behind : ℕ → List (List ℕ) → ℤ → PartList → PartList
@@ -26,10 +26,3 @@ pub told_name : (keys : List Column) (wanted : List (List ℕ)) (max max' : ℤ)
 told_name keys wanted max max' told next whole values rec left rest same so_far front not_yet passes pushed =
     told_one (λ p. part_name (key_names keys) p.0) (λ p. begin_with wanted p.0) max' told next whole (values, rec) rest
     (ap (λ ps. told ++ own_names keys (listed_behind (length told) wanted max' ps)) (sym front) ∙ so_far) (ap (λ (m : ℤ). has_reached m (length told)) same ∙ not_yet) passes pushed
-
--- at the end of the partitions all names are told
-pub names_end : (keys : List Column) (wanted : List (List ℕ)) (max' : ℤ) (told whole : List (List ℕ)) (left : PartList) → told ++ own_names keys (listed_behind (length told) wanted max' left) ≡ whole → left ≡ [] → told ≡ whole
-names_end keys wanted (pos max) told whole left so_far none =
-    sym (append-nil told) ∙ ap (λ ps. told ++ own_names keys ps) (sym (take_empty (max - length told) [] refl)) ∙ ap (λ ps. told ++ own_names keys (listed_behind (length told) wanted (pos max) ps)) (sym none) ∙ so_far
-names_end keys wanted (negsuc n) told whole left so_far none =
-    sym (append-nil told) ∙ ap (λ ps. told ++ own_names keys (listed_behind (length told) wanted (negsuc n) ps)) (sym none) ∙ so_far

@@ -55,6 +55,12 @@ begin_with [] values = true
 begin_with (wanted ∷ more) [] = false
 begin_with (wanted ∷ more) (value ∷ values) = fits_value wanted value && begin_with more values
 
+-- the values that are wanted before the first one that any value fits
+abbrev pub leading : List (List ℕ) → List (List ℕ)
+leading [] = []
+leading ([] ∷ more) = []
+leading ((byte ∷ bytes) ∷ more) = (byte ∷ bytes) ∷ leading more
+
 -- the first `max` partitions whose values begin with those that are wanted
 abbrev pub listed : List (List ℕ) → ℤ → PartList → PartList
 listed wanted max parts = first_of max (filter (λ p. begin_with wanted p.0) parts)

@@ -6,7 +6,7 @@ ghost use Rattle.cat_types.specs.declared.replies.Reply.TheVariants.{Parts};
 ghost use Rattle.cat_objects.specs.Parts.{at_values};
 ghost use Rattle.rulings.specs.Decisions.{Decides, accepted, decided_by};
 ghost use Rattle.rulings.specs.Listed.{all_named, has_reached, named_part};
-ghost use Rattle.part_rules.specs.Partitions.{begin_with, fits_value, get_partition_rules, list_fitting_rules, list_partitions_rules, listed, meant_as, named_of, names_listed, own_names, part_then, parts_listed, parts_named, with_named};
+ghost use Rattle.part_rules.specs.Partitions.{begin_with, fits_value, get_partition_rules, leading, list_fitting_rules, list_partitions_rules, listed, meant_as, named_of, names_listed, own_names, part_then, parts_listed, parts_named, with_named};
 ghost use Rattle.rulings.specs.Meant.{key_names, meaning};
 ghost use Rattle.rulings.specs.Rules.{first_broken};
 
@@ -154,7 +154,8 @@ pub fn get_partition_names_ps(
     told_names(list_names(alloc, held, wanted, max))
 }
 
-// The first `max` partitions whose values begin so, with their names.
+// The first `max` partitions whose values begin so, with their names. It looks at those alone that
+// begin with the leading values.
 fn list_parts(
     alloc: Global,
     held: &HeldTable,
@@ -165,9 +166,13 @@ fn list_parts(
 ) -> Result<Parts, NoMemory>
     ensures { IfOk result (λ parts. parts ≡ all_named db.now name.now (listed wanted.now max held.now.parts)) }
 {
+    let front = leading(alloc, wanted)?;
     let mut parts = ListOf::new(alloc);
-    for (values, rec) in held.parts.iter() {
+    for (values, rec) in held.parts.starting_at(&front) {
         if has_reached(max, parts.len()) {
+            return Ok(parts);
+        }
+        if !begin_with(&front, values) {
             return Ok(parts);
         }
         if begin_with(wanted, values) {
@@ -177,14 +182,18 @@ fn list_parts(
     Ok(parts)
 }
 
-// The names of the first `max` partitions whose values begin so.
+// The names of the first `max` partitions whose values begin so, in the same way.
 fn list_names(alloc: Global, held: &HeldTable, wanted: &Texts, max: i16) -> Result<Texts, NoMemory>
     ensures { IfOk result (λ names. names ≡ own_names held.now.rec.keys (listed wanted.now max held.now.parts)) }
 {
     let keys = key_names(alloc, &held.rec.keys)?;
+    let front = leading(alloc, wanted)?;
     let mut names = ListOf::new(alloc);
-    for (values, _) in held.parts.iter() {
+    for (values, _) in held.parts.starting_at(&front) {
         if has_reached(max, names.len()) {
+            return Ok(names);
+        }
+        if !begin_with(&front, values) {
             return Ok(names);
         }
         if begin_with(wanted, values) {
@@ -192,6 +201,20 @@ fn list_names(alloc: Global, held: &HeldTable, wanted: &Texts, max: i16) -> Resu
         }
     }
     Ok(names)
+}
+
+// The values that are wanted before the first one that any value fits.
+fn leading(alloc: Global, wanted: &Texts) -> Result<Texts, NoMemory>
+    ensures { IfOk result (λ front. front ≡ leading wanted.now) }
+{
+    let mut front = ListOf::new(alloc);
+    for text in wanted.as_slice() {
+        if text.is_empty() {
+            return Ok(front);
+        }
+        front.push(text.copy(alloc)?)?;
+    }
+    Ok(front)
 }
 
 // The names of keys.

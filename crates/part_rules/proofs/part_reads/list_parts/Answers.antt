@@ -1,15 +1,52 @@
-use Rattle.std.proofs.Common.{SFits, ◌≡◌, true, false, length, rules}
+use Rattle.std.proofs.Common.{SFits, ◌≡◌, [], ◌∙◌, true, false, length, rules, ap, subst, sym, refl, ℤ, to_z, of_z}
 use Rattle.std.proofs.lemmas.Int.{to_z-of_z}
 use Rattle.std.specs.Int.{w16}
-use Rattle.part_rules.specs.Partitions.{begin_with}
-use Rattle.rulings.specs.Listed.{has_reached}
+use Rattle.cat_objects.specs.Parts.{parts_from}
 use Rattle.part_rules.proofs.Listing.{told_part}
+use Rattle.part_rules.proofs.Seeking.{left_next, none_left, passed_over, started, started_left, told_all, told_to_end}
+use Rattle.part_rules.specs.Partitions.{begin_with, leading, listed}
+use Rattle.rulings.specs.Listed.{all_named, has_reached}
 use Rattle.part_rules.proofs.part_reads.list_parts.Goals as goal
 
-pub loop-values-preserved-in-Continue-1 : goal.loop-values-preserved-in-Continue-1
-loop-values-preserved-in-Continue-1 c =
+pub loop-values-init : goal.loop-values-init
+loop-values-init c =
+    let is : c.in_ok-front.front ≡ leading c.args.wanted.now = c.in_ok-front.ensures in
+    let from : c.into_iter-values-iterator.result ≡ parts_from c.in_ok-front.front c.args.held.now.parts = search rules in
+    record {
+      told = started (λ ps. all_named c.args.db.now c.args.name.now ps) _ c.args.wanted.now c.in_ok-front.front c.args.held.now.parts _ _ c.new-parts.ensures from is;
+      left = started_left c.args.wanted.now c.in_ok-front.front c.args.held.now.parts _ from is c.starting_at-values-items.ensures.sorted;
+    }
+
+pub returns-then-not-begin_with : goal.returns-then-not-begin_with
+returns-then-not-begin_with c =
+    let fits : SFits w16 c.args.max = search rules in
+    let not_so : begin_with c.in_ok-front.front c.in-Some.values.now ≡ false = search rules in
+    let none = none_left c.args.wanted.now c.in-Some.values.now c.in-Some.rec.now c.loop-values.values-iterator c.next.new.self c.loop-values.invariant.left c.in-Some.ensures.steps (ap (λ f. begin_with f c.in-Some.values.now) (sym c.in_ok-front.ensures) ∙ not_so) in
+    subst (λ (m : ℤ). c.loop-values.parts ≡ all_named c.args.db.now c.args.name.now (listed c.args.wanted.now m c.args.held.now.parts)) (to_z-of_z w16 c.args.max fits)
+    (told_all c.loop-values.parts _ (λ ps. all_named c.args.db.now c.args.name.now ps) refl (length c.loop-values.parts) (to_z w16 (of_z w16 c.args.max)) c.args.wanted.now c.loop-values.values-iterator c.loop-values.invariant.told none)
+
+pub loop-values-preserved-in-Continue-branch-2 : goal.loop-values-preserved-in-Continue-branch-2
+loop-values-preserved-in-Continue-branch-2 c =
     let fits : SFits w16 c.args.max = search rules in
     let not_yet : has_reached c.args.max (length c.loop-values.parts) ≡ false = search rules in
     let passes : begin_with c.args.wanted.now c.in-Some.values.now ≡ true = search rules in
-    told_part c.args.db.now c.args.name.now c.args.wanted.now c.args.max _ c.loop-values.parts c.push_part.new.parts _ c.in-Some.values.now c.in-Some.rec.now c.loop-values.values-iterator c.next.new.self
-    (to_z-of_z w16 c.args.max fits) c.loop-values.invariant c.in-Some.ensures.steps not_yet passes c.in_ok-push_part.ensures
+    record {
+      told = told_part c.args.db.now c.args.name.now c.args.wanted.now c.args.max _ c.loop-values.parts c.push_part.new.parts _ c.in-Some.values.now c.in-Some.rec.now c.loop-values.values-iterator c.next.new.self
+          (to_z-of_z w16 c.args.max fits) c.loop-values.invariant.told c.in-Some.ensures.steps not_yet passes c.in_ok-push_part.ensures;
+      left = left_next c.args.wanted.now c.in-Some.values.now c.in-Some.rec.now c.loop-values.values-iterator c.next.new.self c.loop-values.invariant.left c.in-Some.ensures.steps;
+    }
+
+pub loop-values-preserved : goal.loop-values-preserved
+loop-values-preserved c =
+    let fails : begin_with c.args.wanted.now c.in-Some.values.now ≡ false = search rules in
+    record {
+      told = passed_over (λ ps. all_named c.args.db.now c.args.name.now ps) c.loop-values.parts _ (length c.loop-values.parts) (to_z w16 (of_z w16 c.args.max)) c.args.wanted.now c.in-Some.values.now c.in-Some.rec.now c.loop-values.values-iterator c.next.new.self c.loop-values.invariant.told c.in-Some.ensures.steps fails;
+      left = left_next c.args.wanted.now c.in-Some.values.now c.in-Some.rec.now c.loop-values.values-iterator c.next.new.self c.loop-values.invariant.left c.in-Some.ensures.steps;
+    }
+
+pub returns : goal.returns
+returns c =
+    let fits : SFits w16 c.args.max = search rules in
+    let none : c.loop-values.values-iterator ≡ [] = search rules in
+    subst (λ (m : ℤ). c.loop-values.parts ≡ all_named c.args.db.now c.args.name.now (listed c.args.wanted.now m c.args.held.now.parts)) (to_z-of_z w16 c.args.max fits)
+    (told_to_end c.loop-values.parts _ (λ ps. all_named c.args.db.now c.args.name.now ps) refl (length c.loop-values.parts) (to_z w16 (of_z w16 c.args.max)) c.args.wanted.now c.loop-values.values-iterator c.loop-values.invariant.told none)
