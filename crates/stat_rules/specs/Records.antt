@@ -1,5 +1,5 @@
 -- Statistics of columns: how they are handed in, kept and told.
-use Rattle.std.specs.Prelude.{ℕ, nat_lt, min, Bool, true, false, not, List, [], ◌∷◌, ◌++◌, fold, length, map, Option, None, Some, is_some, ℤ, pos, if◌then◌else◌}
+use Rattle.std.specs.Prelude.{ℕ, nat_lt, min, Bool, false, not, List, [], ◌∷◌, ◌++◌, fold, length, map, Option, None, Some, is_some, ℤ, pos, if◌then◌else◌}
 use Rattle.std.specs.BTreeMap.{insert_entry}
 use Rattle.std.specs.Cmp.Lexicographic.{slice_cmp}
 use Rattle.std.specs.List.{list_all, list_any}

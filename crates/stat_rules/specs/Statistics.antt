@@ -1,8 +1,6 @@
 -- The calls on statistics of columns: their rules, what they change, and what they result in.
 use Rattle.std.specs.Prelude.{ℕ, Bool, false, not, ◌&&◌, List, [], ◌∷◌, Option, None, Some, is_some, ℤ}
-use Rattle.cat_values.specs.Names.{lower}
 use Rattle.cat_values.specs.declared.records.PartRec.{PartRec}
-use Rattle.cat_values.specs.declared.statistics.StatRec.{StatRec}
 use Rattle.cat_values.specs.declared.storage.Column.{Column}
 use Rattle.cat_types.specs.declared.arguments.StatArg.{StatArg}
 use Rattle.cat_types.specs.declared.arguments.StatsArg.{StatsArg}
@@ -14,7 +12,7 @@ use Rattle.cat_types.specs.declared.changes.Op.TheVariants.{PutPart, PutTable}
 use Rattle.cat_types.specs.declared.named.NamedStat.{NamedStat}
 use Rattle.cat_types.specs.declared.replies.Reply.{Reply}
 use Rattle.cat_types.specs.declared.replies.Reply.TheVariants.{ColumnStats, Stats}
-use Rattle.cat_objects.specs.Catalogue.{Catalogue, at_name, database, has_table, part, parts_of, table}
+use Rattle.cat_objects.specs.Catalogue.{Catalogue, at_name, has_table, part, parts_of, table}
 use Rattle.cat_objects.specs.Changes.{is_lawful_table}
 use Rattle.cat_objects.specs.Parts.{at_values}
 use Rattle.cat_objects.specs.declared.held.HeldTable.{HeldTable}

@@ -1,4 +1,4 @@
-use Rattle.std.proofs.Common.{◌≡◌, [], ◌∷◌, None, Some, rules, true, if◌then◌else◌}
+use Rattle.std.proofs.Common.{◌≡◌, None, Some, rules, true, if◌then◌else◌}
 use Rattle.cat_types.specs.declared.changes.EventKind.TheVariants as kind
 use Rattle.cat_types.specs.declared.replies.Reply.TheVariants.{Flag}
 use Rattle.part_names.specs.Reading.{vals}

@@ -1,4 +1,4 @@
-use Rattle.std.proofs.Common.{SFits, ℤ, subst, ◌≡◌, [], ◌∷◌, None, Some, rules, true, if◌then◌else◌}
+use Rattle.std.proofs.Common.{SFits, ℤ, subst, ◌≡◌, None, Some, rules, true, if◌then◌else◌}
 use Rattle.std.proofs.lemmas.Int.{to_z-of_z}
 use Rattle.std.specs.Int.{w64}
 use Rattle.cat_types.specs.declared.changes.EventKind.TheVariants as kind

@@ -1,4 +1,3 @@
-use Rattle.std.proofs.Common.{rules}
 use Rattle.stat_rules.proofs.Finding.{lead_item}
 use Rattle.stat_rules.proofs.places.places_of.Goals as goal
 
