@@ -1,0 +1,5 @@
+pub mod Doubles
+pub mod Flags
+pub mod Longs
+pub mod Members
+pub mod Strings
