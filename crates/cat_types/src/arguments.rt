@@ -1,6 +1,8 @@
 //! What callers hand in.
 
-use cat_values::{CopyParts, DbRec, ListOf, NoMemory, PartRec, TableRec, Text, Texts, TryCopy};
+use cat_values::{
+    CopyParts, DbRec, ListOf, NoMemory, PartRec, StatValue, TableRec, Text, Texts, TryCopy,
+};
 use std::alloc::Global;
 
 /// A database as a caller hands it in. An absent name names nothing.
@@ -64,6 +66,71 @@ impl TryCopy for PartArg {
                 values,
                 rec,
             }),
+            Err(NoMemory) => Err(NoMemory),
+        }
+    }
+}
+
+/// Of what a caller hands in statistics: of a table where `table_level` is set, else of its partition
+/// `part`. An absent name names nothing. `analyzed` is when they were taken, in seconds since 1970.
+#[derive(Drop)]
+pub struct StatsDesc {
+    pub table_level: bool,
+    pub db: Option<Text>,
+    pub table: Option<Text>,
+    pub part: Option<Text>,
+    pub analyzed: Option<i64>,
+}
+
+impl TryCopy for StatsDesc {
+    fn copy(&self, alloc: Global) -> Result<StatsDesc, NoMemory> {
+        match (&self.db, &self.table, &self.part).copy_parts(alloc) {
+            Ok((db, table, part)) => Ok(StatsDesc {
+                table_level: self.table_level,
+                db,
+                table,
+                part,
+                analyzed: self.analyzed,
+            }),
+            Err(NoMemory) => Err(NoMemory),
+        }
+    }
+}
+
+/// A column's statistics as a caller hands them in. An absent name names nothing, and an absent value
+/// is none of those that are known.
+#[derive(Drop)]
+pub struct StatArg {
+    pub col: Option<Text>,
+    pub value: Option<StatValue>,
+}
+
+/// A list of statistics of columns as a caller hands them in.
+pub type StatArgs = ListOf<StatArg>;
+
+impl TryCopy for StatArg {
+    fn copy(&self, alloc: Global) -> Result<StatArg, NoMemory> {
+        match self.col.copy(alloc) {
+            Ok(col) => Ok(StatArg {
+                col,
+                value: self.value,
+            }),
+            Err(NoMemory) => Err(NoMemory),
+        }
+    }
+}
+
+/// Statistics as a caller hands them in, and of what they are, where that was said.
+#[derive(Drop)]
+pub struct StatsArg {
+    pub desc: Option<StatsDesc>,
+    pub objects: StatArgs,
+}
+
+impl TryCopy for StatsArg {
+    fn copy(&self, alloc: Global) -> Result<StatsArg, NoMemory> {
+        match (&self.desc, &self.objects).copy_parts(alloc) {
+            Ok((desc, objects)) => Ok(StatsArg { desc, objects }),
             Err(NoMemory) => Err(NoMemory),
         }
     }

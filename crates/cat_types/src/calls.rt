@@ -5,12 +5,17 @@ ghost use Rattle.std.specs.Prelude.{◌≡◌, IfOk};
 use crate::part_calls::{
     copy_add_partition, copy_add_partitions, copy_add_partitions_req, copy_alter_partition,
     copy_alter_partitions, copy_append_partition, copy_append_partition_by_name,
-    copy_drop_partition, copy_drop_partition_by_name, copy_get_partition,
-    copy_get_partition_by_name, copy_get_partition_names, copy_get_partition_names_ps,
-    copy_get_partitions, copy_get_partitions_by_names, copy_get_partitions_ps,
-    copy_rename_partition,
+    copy_drop_partition, copy_drop_partition_by_name, copy_get_num_partitions_by_filter,
+    copy_get_partition, copy_get_partition_by_name, copy_get_partition_names,
+    copy_get_partition_names_ps, copy_get_partitions, copy_get_partitions_by_filter,
+    copy_get_partitions_by_names, copy_get_partitions_ps, copy_rename_partition,
 };
-use crate::{DbArg, PartArg, PartArgs, TableArg};
+use crate::stat_calls::{
+    copy_delete_partition_statistics, copy_delete_table_statistics, copy_get_partition_statistics,
+    copy_get_statistics_req, copy_get_table_statistics, copy_update_partition_statistics,
+    copy_update_table_statistics,
+};
+use crate::{DbArg, PartArg, PartArgs, StatsArg, TableArg};
 use cat_values::{CopyParts, NoMemory, Text, Texts, TryCopy};
 use std::alloc::Global;
 
@@ -170,6 +175,19 @@ pub enum Call {
         values: Texts,
         max: i16,
     },
+    /// The first `max` partitions for which a filter holds; all of them where `max` is negative.
+    GetPartitionsByFilter {
+        db: Text,
+        table: Text,
+        filter: Text,
+        max: i16,
+    },
+    /// How many partitions there are for which a filter holds.
+    GetNumPartitionsByFilter {
+        db: Text,
+        table: Text,
+        filter: Text,
+    },
     /// Those of the named partitions that there are, each once.
     GetPartitionsByNames {
         db: Text,
@@ -194,6 +212,47 @@ pub enum Call {
         table: Text,
         values: Texts,
         part: PartArg,
+    },
+    /// Gives columns of a table these statistics.
+    UpdateTableColumnStatistics {
+        stats: StatsArg,
+    },
+    /// Gives columns of a partition these statistics.
+    UpdatePartitionColumnStatistics {
+        stats: StatsArg,
+    },
+    /// The statistics of a table's column.
+    GetTableColumnStatistics {
+        db: Text,
+        table: Text,
+        col: Text,
+    },
+    /// The statistics of a column of the partition with this name.
+    GetPartitionColumnStatistics {
+        db: Text,
+        table: Text,
+        part: Text,
+        col: Text,
+    },
+    /// Takes off the statistics of a table's column; of all columns where `col` is absent.
+    DeleteTableColumnStatistics {
+        db: Text,
+        table: Text,
+        col: Option<Text>,
+    },
+    /// The same of the partition with this name.
+    DeletePartitionColumnStatistics {
+        db: Text,
+        table: Text,
+        part: Text,
+        col: Option<Text>,
+    },
+    /// The statistics of those of a table's columns that have some, in the order of first asking, by a
+    /// request whose names may be absent.
+    GetTableStatisticsReq {
+        db: Option<Text>,
+        table: Option<Text>,
+        cols: Texts,
     },
     /// The kept events above the number `last`, `max` of them at most; all where `max` is absent, 0
     /// or negative.
@@ -272,6 +331,15 @@ impl TryCopy for Call {
                 values,
                 max,
             } => copy_get_partition_names_ps(db, table, values, *max, alloc),
+            Call::GetPartitionsByFilter {
+                db,
+                table,
+                filter,
+                max,
+            } => copy_get_partitions_by_filter(db, table, filter, *max, alloc),
+            Call::GetNumPartitionsByFilter { db, table, filter } => {
+                copy_get_num_partitions_by_filter(db, table, filter, alloc)
+            }
             Call::GetPartitionsByNames { db, table, names } => copy_get_partitions_by_names(
                 db, table, names, alloc,
             ),
@@ -287,6 +355,33 @@ impl TryCopy for Call {
                 values,
                 part,
             } => copy_rename_partition(db, table, values, part, alloc),
+            Call::UpdateTableColumnStatistics { stats } => copy_update_table_statistics(
+                stats, alloc,
+            ),
+            Call::UpdatePartitionColumnStatistics { stats } => copy_update_partition_statistics(
+                stats, alloc,
+            ),
+            Call::GetTableColumnStatistics { db, table, col } => copy_get_table_statistics(
+                db, table, col, alloc,
+            ),
+            Call::GetPartitionColumnStatistics {
+                db,
+                table,
+                part,
+                col,
+            } => copy_get_partition_statistics(db, table, part, col, alloc),
+            Call::DeleteTableColumnStatistics { db, table, col } => copy_delete_table_statistics(
+                db, table, col, alloc,
+            ),
+            Call::DeletePartitionColumnStatistics {
+                db,
+                table,
+                part,
+                col,
+            } => copy_delete_partition_statistics(db, table, part, col, alloc),
+            Call::GetTableStatisticsReq { db, table, cols } => copy_get_statistics_req(
+                db, table, cols, alloc,
+            ),
         }
     }
 }

@@ -10,9 +10,10 @@ mod named;
 mod part_calls;
 mod replicas;
 mod replies;
+mod stat_calls;
 mod steps;
 
-pub use arguments::{DbArg, PartArg, PartArgs, TableArg};
+pub use arguments::{DbArg, PartArg, PartArgs, StatArg, StatArgs, StatsArg, StatsDesc, TableArg};
 pub use calls::Call;
 pub use cat_values::{
     Bytes, Column, Columns, CopyParts, DbRec, LIST_END, ListOf, LowerName, MAP_END, MapOf,
@@ -21,7 +22,7 @@ pub use cat_values::{
 };
 pub use changes::{Change, Event, EventKind, Events, Op, Ops};
 pub use items::{Item, Items};
-pub use named::{NamedPart, NamedTable, Parts, Tables};
+pub use named::{NamedPart, NamedStat, NamedStats, NamedTable, Parts, Tables};
 pub use replicas::{Marked, MarkedOps, Phase, ReplicaRow};
 pub use replies::Reply;
 pub use steps::{Answer, Step};

@@ -1,6 +1,6 @@
 //! Objects with their names, as they are told.
 
-use cat_values::{CopyParts, ListOf, NoMemory, PartRec, TableRec, Text, Texts, TryCopy};
+use cat_values::{CopyParts, ListOf, NoMemory, PartRec, StatRec, TableRec, Text, Texts, TryCopy};
 use std::alloc::Global;
 
 /// A table with its names.
@@ -44,6 +44,27 @@ impl TryCopy for NamedPart {
                 values,
                 rec,
             }),
+            Err(NoMemory) => Err(NoMemory),
+        }
+    }
+}
+
+/// A column's statistics with the column's name and its type, which is empty where the table has no
+/// such column.
+#[derive(Drop)]
+pub struct NamedStat {
+    pub col: Text,
+    pub ty: Text,
+    pub rec: StatRec,
+}
+
+/// A list of statistics of columns.
+pub type NamedStats = ListOf<NamedStat>;
+
+impl TryCopy for NamedStat {
+    fn copy(&self, alloc: Global) -> Result<NamedStat, NoMemory> {
+        match (&self.col, &self.ty, &self.rec).copy_parts(alloc) {
+            Ok((col, ty, rec)) => Ok(NamedStat { col, ty, rec }),
             Err(NoMemory) => Err(NoMemory),
         }
     }

@@ -198,6 +198,40 @@ pub(crate) fn copy_get_partition_names_ps(
     }
 }
 
+pub(crate) fn copy_get_partitions_by_filter(
+    db: &Text,
+    table: &Text,
+    filter: &Text,
+    max: i16,
+    alloc: Global,
+) -> Result<Call, NoMemory>
+    ensures { IfOk result (λ made. made ≡ Call.GetPartitionsByFilter db.now table.now filter.now max) }
+{
+    match (db, table, filter).copy_parts(alloc) {
+        Ok((db, table, filter)) => Ok(Call::GetPartitionsByFilter {
+            db,
+            table,
+            filter,
+            max,
+        }),
+        Err(NoMemory) => Err(NoMemory),
+    }
+}
+
+pub(crate) fn copy_get_num_partitions_by_filter(
+    db: &Text,
+    table: &Text,
+    filter: &Text,
+    alloc: Global,
+) -> Result<Call, NoMemory>
+    ensures { IfOk result (λ made. made ≡ Call.GetNumPartitionsByFilter db.now table.now filter.now) }
+{
+    match (db, table, filter).copy_parts(alloc) {
+        Ok((db, table, filter)) => Ok(Call::GetNumPartitionsByFilter { db, table, filter }),
+        Err(NoMemory) => Err(NoMemory),
+    }
+}
+
 pub(crate) fn copy_get_partitions_by_names(
     db: &Text,
     table: &Text,

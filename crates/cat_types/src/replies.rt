@@ -1,6 +1,6 @@
 //! What the catalogue replies.
 
-use crate::{Events, Parts, Tables};
+use crate::{Events, NamedStats, Parts, Tables};
 use cat_values::{Columns, CopyParts, DbRec, NoMemory, Params, Text, Texts, TryCopy};
 use std::alloc::Global;
 
@@ -27,6 +27,15 @@ pub enum Reply {
     Tables(Tables),
     /// Partitions; a result that is one partition is a list with that one.
     Parts(Parts),
+    /// Statistics of columns.
+    Stats(NamedStats),
+    /// Statistics of columns, and of which table or partition they are.
+    ColumnStats {
+        db: Text,
+        table: Text,
+        part: Option<Text>,
+        stats: NamedStats,
+    },
     /// Events, in the order of their numbers.
     Events(Events),
     /// The call was refused: the number of the refusal, and its text.
@@ -62,6 +71,24 @@ impl TryCopy for Reply {
             },
             Reply::Db(name, rec) => match (name, rec).copy_parts(alloc) {
                 Ok((name, rec)) => Ok(Reply::Db(name, rec)),
+                Err(NoMemory) => Err(NoMemory),
+            },
+            Reply::Stats(stats) => match stats.copy(alloc) {
+                Ok(stats) => Ok(Reply::Stats(stats)),
+                Err(NoMemory) => Err(NoMemory),
+            },
+            Reply::ColumnStats {
+                db,
+                table,
+                part,
+                stats,
+            } => match (db, table, part, stats).copy_parts(alloc) {
+                Ok((db, table, part, stats)) => Ok(Reply::ColumnStats {
+                    db,
+                    table,
+                    part,
+                    stats,
+                }),
                 Err(NoMemory) => Err(NoMemory),
             },
             Reply::Events(events) => match events.copy(alloc) {
