@@ -101,6 +101,67 @@ struct AddPartitionsResult {
   1: optional list<Partition> partitions
 }
 
+/** Statistics of a column of flags. */
+struct BooleanColumnStatsData {
+  1: i64 numTrues,
+  2: i64 numFalses,
+  3: i64 numNulls
+}
+
+/** Statistics of a column of whole numbers. */
+struct LongColumnStatsData {
+  1: optional i64 lowValue,
+  2: optional i64 highValue,
+  3: i64 numNulls,
+  4: i64 numDVs
+}
+
+/** Statistics of a column of texts. */
+struct StringColumnStatsData {
+  1: i64 maxColLen,
+  2: double avgColLen,
+  3: i64 numNulls,
+  4: i64 numDVs
+}
+
+/** The last one that is there counts. Hive has a union here; it is written and read alike. */
+struct ColumnStatisticsData {
+  1: optional BooleanColumnStatsData booleanStats,
+  2: optional LongColumnStatsData longStats,
+  4: optional StringColumnStatsData stringStats
+}
+
+/** Statistics of a column. The type is read and not used; it is written as the table's column has it. */
+struct ColumnStatisticsObj {
+  1: optional string colName,
+  2: optional string colType,
+  3: optional ColumnStatisticsData statsData
+}
+
+/** Of what statistics are: of a table, or of one of its partitions. */
+struct ColumnStatisticsDesc {
+  1: bool isTblLevel,
+  2: optional string dbName,
+  3: optional string tableName,
+  4: optional string partName,
+  5: optional i64 lastAnalyzed
+}
+
+struct ColumnStatistics {
+  1: optional ColumnStatisticsDesc statsDesc,
+  2: list<ColumnStatisticsObj> statsObj
+}
+
+struct TableStatsRequest {
+  1: optional string dbName,
+  2: optional string tblName,
+  3: list<string> colNames
+}
+
+struct TableStatsResult {
+  1: list<ColumnStatisticsObj> tableStats
+}
+
 /** Read, and not used. */
 struct EnvironmentContext {
   1: map<string, string> properties
@@ -157,6 +218,10 @@ exception InvalidObjectException {
 }
 
 exception InvalidOperationException {
+  1: string message
+}
+
+exception InvalidInputException {
   1: string message
 }
 
@@ -298,6 +363,14 @@ service ThriftHiveMetastore {
       4: i16 max_parts = -1)
     throws (1: MetaException o1, 2: NoSuchObjectException o2),
 
+  /** Those for which the filter holds; all where it is empty. */
+  list<Partition> get_partitions_by_filter(1: string db_name, 2: string tbl_name, 3: string filter,
+      4: i16 max_parts = -1)
+    throws (1: MetaException o1, 2: NoSuchObjectException o2),
+
+  i32 get_num_partitions_by_filter(1: string db_name, 2: string tbl_name, 3: string filter)
+    throws (1: MetaException o1, 2: NoSuchObjectException o2),
+
   /** Those that there are, each once. */
   list<Partition> get_partitions_by_names(1: string db_name, 2: string tbl_name, 3: list<string> names)
     throws (1: MetaException o1, 2: NoSuchObjectException o2),
@@ -314,6 +387,31 @@ service ThriftHiveMetastore {
 
   void rename_partition(1: string db_name, 2: string tbl_name, 3: list<string> part_vals, 4: Partition new_part)
     throws (1: InvalidOperationException o1, 2: MetaException o2),
+
+  bool update_table_column_statistics(1: ColumnStatistics stats_obj)
+    throws (1: NoSuchObjectException o1, 2: InvalidObjectException o2, 3: MetaException o3, 4: InvalidInputException o4),
+
+  bool update_partition_column_statistics(1: ColumnStatistics stats_obj)
+    throws (1: NoSuchObjectException o1, 2: InvalidObjectException o2, 3: MetaException o3, 4: InvalidInputException o4),
+
+  ColumnStatistics get_table_column_statistics(1: string db_name, 2: string tbl_name, 3: string col_name)
+    throws (1: NoSuchObjectException o1, 2: MetaException o2, 3: InvalidInputException o3, 4: InvalidObjectException o4),
+
+  ColumnStatistics get_partition_column_statistics(1: string db_name, 2: string tbl_name, 3: string part_name,
+      4: string col_name)
+    throws (1: NoSuchObjectException o1, 2: MetaException o2, 3: InvalidInputException o3, 4: InvalidObjectException o4),
+
+  /** Those of all columns where col_name is absent. */
+  bool delete_table_column_statistics(1: string db_name, 2: string tbl_name, 3: string col_name)
+    throws (1: NoSuchObjectException o1, 2: MetaException o2, 3: InvalidObjectException o3, 4: InvalidInputException o4),
+
+  bool delete_partition_column_statistics(1: string db_name, 2: string tbl_name, 3: string part_name,
+      4: string col_name)
+    throws (1: NoSuchObjectException o1, 2: MetaException o2, 3: InvalidObjectException o3, 4: InvalidInputException o4),
+
+  /** Of the columns that have some, in the order of first asking. */
+  TableStatsResult get_table_statistics_req(1: TableStatsRequest request)
+    throws (1: NoSuchObjectException o1, 2: MetaException o2),
 
   /** Whether all values are valid. */
   bool partition_name_has_valid_characters(1: list<string> part_vals, 2: bool throw_exception)

@@ -2,9 +2,8 @@
 use Rattle.std.proofs.Common.{◌≡◌, ℕ, Bool, true, false, ℤ, pos, List, Option, Some, None, Result, Ok, Err, refl, sym, subst, inl, inr}
 use Rattle.std.specs.Prelude.{IfOk, ⊤, if◌then◌else◌}
 use Rattle.std.specs.List.{list_all}
-use Rattle.cat_types.specs.declared.arguments.PartArg.{PartArg}
 use Rattle.cat_types.specs.declared.calls.Call.{Call}
-use Rattle.cat_types.specs.declared.calls.Call.TheVariants.{AddPartition, AddPartitions, AlterDatabase, AlterPartition, AlterPartitions, AlterTable, AppendPartition, AppendPartitionByName, CreateDatabase, CreateTable, DropPartition, DropPartitionByName, DropTable, GetAllTables, GetDatabase, GetDatabases, GetFields, GetNextNotification, GetPartition, GetPartitionByName, GetPartitionNames, GetPartitionNamesPs, GetPartitions, GetPartitionsByNames, GetPartitionsPs, GetSchema, GetTable, GetTableObjectsByName, GetTableReq, GetTables, RenamePartition}
+use Rattle.cat_types.specs.declared.calls.Call.TheVariants.{AddPartition, AddPartitions, AlterDatabase, AlterPartition, AlterPartitions, AlterTable, AppendPartition, AppendPartitionByName, CreateDatabase, CreateTable, DeletePartitionColumnStatistics, DeleteTableColumnStatistics, DropPartition, DropPartitionByName, DropTable, GetAllTables, GetDatabase, GetDatabases, GetFields, GetNextNotification, GetNumPartitionsByFilter, GetPartition, GetPartitionByName, GetPartitionColumnStatistics, GetPartitionNames, GetPartitionNamesPs, GetPartitions, GetPartitionsByFilter, GetPartitionsByNames, GetPartitionsPs, GetSchema, GetTable, GetTableColumnStatistics, GetTableObjectsByName, GetTableReq, GetTableStatisticsReq, GetTables, RenamePartition, UpdatePartitionColumnStatistics, UpdateTableColumnStatistics}
 use Rattle.cat_types.specs.declared.replies.Reply.TheVariants.{Flag, Names, Spec}
 use Rattle.part_names.specs.Reading.{first_unreadable, spec, vals}
 use Rattle.ms_calls.specs.declared.part_texts.OfName.{OfName}
@@ -22,11 +21,13 @@ use Rattle.thrift_binary.specs.Wire.{IsWire}
 use Rattle.ms_calls.specs.declared.method.Method.{Method}
 use Rattle.ms_calls.specs.declared.method.Method.TheVariants as method
 use Rattle.ms_calls.specs.declared.request.Asked.{Asked}
-use Rattle.ms_calls.specs.Arguments.{add_partitions_req_call, and_then, drop_database_call, from_one, from_three, from_two, given, has_valid_characters_reply, is_valid_value, list_call, name_reply, needed, needed_three, no_limit, set_ugi_reply, spec_reply, unless_unreadable, vals_reply, with_context}
-use Rattle.ms_calls.specs.Asked.{CameAs, IfClient, IfPlain, IsMethodOf, asked_by, client, context_at, database_at, flag_at, limit_at, name_asked, partition_at, partitions_at, plain, table_at, text_at, texts_at}
+use Rattle.ms_calls.specs.Arguments.{add_partitions_req_call, and_then, drop_database_call, from_one, from_three, from_two, given, has_valid_characters_reply, is_valid_value, list_call, name_reply, needed, needed_three, needed_two, no_limit, optional, set_ugi_reply, spec_reply, unless_unreadable, vals_reply, with_context}
+use Rattle.ms_calls.specs.Asked.{CameAs, IfClient, IfPlain, IsMethodOf, asked_by, client, context_at, database_at, flag_at, limit_at, name_asked, partition_at, partitions_at, plain, statistics_at, table_at, text_at, texts_at}
 use Rattle.ms_structs.specs.Notifications.{request_of as poll_of}
 use Rattle.ms_structs.specs.Slots.{said}
 use Rattle.ms_structs.specs.declared.notification_request.NotificationRequest.{NotificationRequest}
+use Rattle.stat_structs.specs.Requests.{request_of as statistics_request_of}
+use Rattle.stat_structs.specs.declared.requests.StatsRequest.{StatsRequest}
 use Rattle.table_structs.specs.PartRequests.{adding_of}
 use Rattle.table_structs.specs.Requests.{request_of}
 use Rattle.table_structs.specs.declared.requests.TableRequest.{TableRequest}
@@ -84,18 +85,28 @@ limit_fits m make (Is a) (Is b) Nothing is = (tt, is a b no_limit)
 limit_fits m make (Is a) (Is b) BadText is = (tt, tt)
 limit_fits m make (Is a) (Is b) (Is n) is = (tt, is a b n)
 
-limits_fit : (m : Method) (make : List ℕ → List ℕ → List (List ℕ) → ℤ → Call) (all : Result (List ℕ × List ℕ × List (List ℕ)) ℤ) (max : Got ℤ) → ((a b : List ℕ) (c : List (List ℕ)) (n : ℤ) → IsMethodOf (make a b c n) m)
+limits_fit : {C : Type 0} (m : Method) (make : List ℕ → List ℕ → C → ℤ → Call) (all : Result (List ℕ × List ℕ × C) ℤ) (max : Got ℤ) → ((a b : List ℕ) (c : C) (n : ℤ) → IsMethodOf (make a b c n) m)
     → Fits (Some m) (client (and_then all (λ all. and_then (given (pos 4) no_limit max) (λ max. Ok (make all.0 all.1 all.2 max)))))
 limits_fit m make (Err id) max is = (tt, tt)
 limits_fit m make (Ok all) Nothing is = (tt, is all.0 all.1 all.2 no_limit)
 limits_fit m make (Ok all) BadText is = (tt, tt)
 limits_fit m make (Ok all) (Is n) is = (tt, is all.0 all.1 all.2 n)
 
-rename_fits : (all : Result (List ℕ × List ℕ × List (List ℕ)) ℤ) (part : Got PartArg) → Fits (Some method.RenamePartition) (client (and_then all (λ all. and_then (needed (pos 4) part) (λ d. Ok (RenamePartition all.0 all.1 all.2 d)))))
-rename_fits (Err id) part = (tt, tt)
-rename_fits (Ok all) Nothing = (tt, tt)
-rename_fits (Ok all) BadText = (tt, tt)
-rename_fits (Ok all) (Is part) = (tt, refl)
+-- what four arguments make that must be there
+four_fits : {C D : Type 0} (m : Method) (make : List ℕ → List ℕ → C → D → Call) (all : Result (List ℕ × List ℕ × C) ℤ) (fourth : Got D) → ((a b : List ℕ) (c : C) (d : D) → IsMethodOf (make a b c d) m)
+    → Fits (Some m) (client (and_then all (λ all. and_then (needed (pos 4) fourth) (λ d. Ok (make all.0 all.1 all.2 d)))))
+four_fits m make (Err id) fourth is = (tt, tt)
+four_fits m make (Ok all) Nothing is = (tt, tt)
+four_fits m make (Ok all) BadText is = (tt, tt)
+four_fits m make (Ok all) (Is d) is = (tt, is all.0 all.1 all.2 d)
+
+-- what others make with one that may be absent
+optional_fits : {A C : Type 0} (m : Method) (make : A → Option C → Call) (id : ℤ) (all : Result A ℤ) (last : Got C) → ((all : A) (c : Option C) → IsMethodOf (make all c) m)
+    → Fits (Some m) (client (and_then all (λ all. and_then (optional id last) (λ c. Ok (make all c)))))
+optional_fits m make id (Err wrong) last is = (tt, tt)
+optional_fits m make id (Ok all) Nothing is = (tt, is all None)
+optional_fits m make id (Ok all) BadText is = (tt, tt)
+optional_fits m make id (Ok all) (Is c) is = (tt, is all (Some c))
 
 -- a request is a call that came so
 request_fits : (request : Got Call) → IfIs request (λ call. IsMethodOf call method.AddPartitionsReq) → Fits (Some method.AddPartitionsReq) (client (add_partitions_req_call request))
@@ -185,11 +196,20 @@ asked_fits (Some method.GetPartitions) v = limit_fits method.GetPartitions GetPa
 asked_fits (Some method.GetPartitionNames) v = limit_fits method.GetPartitionNames GetPartitionNames (text_at (pos 1) v) (text_at (pos 2) v) (limit_at (pos 3) v) (λ db table max. refl)
 asked_fits (Some method.GetPartitionsPs) v = limits_fit method.GetPartitionsPs GetPartitionsPs (needed_three (text_at (pos 1) v) (text_at (pos 2) v) (texts_at (pos 3) v)) (limit_at (pos 4) v) (λ db table values max. refl)
 asked_fits (Some method.GetPartitionNamesPs) v = limits_fit method.GetPartitionNamesPs GetPartitionNamesPs (needed_three (text_at (pos 1) v) (text_at (pos 2) v) (texts_at (pos 3) v)) (limit_at (pos 4) v) (λ db table values max. refl)
+asked_fits (Some method.GetPartitionsByFilter) v = limits_fit method.GetPartitionsByFilter GetPartitionsByFilter (needed_three (text_at (pos 1) v) (text_at (pos 2) v) (text_at (pos 3) v)) (limit_at (pos 4) v) (λ db table filter max. refl)
+asked_fits (Some method.GetNumPartitionsByFilter) v = three_fits method.GetNumPartitionsByFilter GetNumPartitionsByFilter (text_at (pos 1) v) (text_at (pos 2) v) (text_at (pos 3) v) (λ db table filter. refl)
 asked_fits (Some method.GetPartitionsByNames) v = three_fits method.GetPartitionsByNames GetPartitionsByNames (text_at (pos 1) v) (text_at (pos 2) v) (texts_at (pos 3) v) (λ db table other. refl)
 asked_fits (Some method.AlterPartition) v = context_fits method.AlterPartition (pos 4) Nothing _ (three_fits method.AlterPartition AlterPartition (text_at (pos 1) v) (text_at (pos 2) v) (partition_at (pos 3) v) (λ db table part. inl refl))
 asked_fits (Some method.AlterPartitionWithEnvironmentContext) v = context_fits method.AlterPartitionWithEnvironmentContext (pos 4) (context_at (pos 4) v) _ (three_fits method.AlterPartitionWithEnvironmentContext AlterPartition (text_at (pos 1) v) (text_at (pos 2) v) (partition_at (pos 3) v) (λ db table part. inr refl))
 asked_fits (Some method.AlterPartitions) v = three_fits method.AlterPartitions AlterPartitions (text_at (pos 1) v) (text_at (pos 2) v) (partitions_at (pos 3) v) (λ db table parts. refl)
-asked_fits (Some method.RenamePartition) v = rename_fits (needed_three (text_at (pos 1) v) (text_at (pos 2) v) (texts_at (pos 3) v)) (partition_at (pos 4) v)
+asked_fits (Some method.RenamePartition) v = four_fits method.RenamePartition RenamePartition (needed_three (text_at (pos 1) v) (text_at (pos 2) v) (texts_at (pos 3) v)) (partition_at (pos 4) v) (λ db table values part. refl)
+asked_fits (Some method.UpdateTableColumnStatistics) v = one_fits method.UpdateTableColumnStatistics UpdateTableColumnStatistics (statistics_at (pos 1) v) (λ stats. refl)
+asked_fits (Some method.UpdatePartitionColumnStatistics) v = one_fits method.UpdatePartitionColumnStatistics UpdatePartitionColumnStatistics (statistics_at (pos 1) v) (λ stats. refl)
+asked_fits (Some method.GetTableColumnStatistics) v = three_fits method.GetTableColumnStatistics GetTableColumnStatistics (text_at (pos 1) v) (text_at (pos 2) v) (text_at (pos 3) v) (λ db table col. refl)
+asked_fits (Some method.GetPartitionColumnStatistics) v = four_fits method.GetPartitionColumnStatistics GetPartitionColumnStatistics (needed_three (text_at (pos 1) v) (text_at (pos 2) v) (text_at (pos 3) v)) (text_at (pos 4) v) (λ db table part col. refl)
+asked_fits (Some method.DeleteTableColumnStatistics) v = optional_fits method.DeleteTableColumnStatistics (λ (all : List ℕ × List ℕ) col. DeleteTableColumnStatistics all.0 all.1 col) (pos 3) (needed_two (text_at (pos 1) v) (text_at (pos 2) v)) (text_at (pos 3) v) (λ all col. refl)
+asked_fits (Some method.DeletePartitionColumnStatistics) v = optional_fits method.DeletePartitionColumnStatistics (λ (all : List ℕ × List ℕ × List ℕ) col. DeletePartitionColumnStatistics all.0 all.1 all.2 col) (pos 4) (needed_three (text_at (pos 1) v) (text_at (pos 2) v) (text_at (pos 3) v)) (text_at (pos 4) v) (λ all col. refl)
+asked_fits (Some method.GetTableStatisticsReq) v = one_fits method.GetTableStatisticsReq (λ (request : StatsRequest). GetTableStatisticsReq request.db request.table request.cols) (said (pos 1) struct_code statistics_request_of v) (λ request. refl)
 asked_fits (Some method.GetNextNotification) v = one_fits method.GetNextNotification (λ (request : NotificationRequest). GetNextNotification request.last request.max) (said (pos 1) struct_code poll_of v) (λ request. refl)
 asked_fits (Some method.GetCurrentNotificationEventId) v = (tt, refl)
 

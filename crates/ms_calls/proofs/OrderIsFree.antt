@@ -1,10 +1,10 @@
 -- What a message asks doesn't depend on the order of fields with different ids.
 use Rattle.std.proofs.Common.{◌≡◌, Option, Some, None, pos, refl}
-use Rattle.cat_types.specs.declared.calls.Call.TheVariants.{AppendPartition, AppendPartitionByName, DropPartitionByName, GetPartition, GetPartitionByName, GetPartitionNames, GetPartitionNamesPs, GetPartitions, GetPartitionsByNames, GetPartitionsPs}
+use Rattle.cat_types.specs.declared.calls.Call.TheVariants.{AppendPartition, AppendPartitionByName, DropPartitionByName, GetNumPartitionsByFilter, GetPartition, GetPartitionByName, GetPartitionNames, GetPartitionNamesPs, GetPartitions, GetPartitionsByFilter, GetPartitionsByNames, GetPartitionsPs, GetTableColumnStatistics, UpdatePartitionColumnStatistics, UpdateTableColumnStatistics}
 use Rattle.ms_calls.specs.declared.method.Method.{Method}
 use Rattle.ms_calls.specs.declared.method.Method.TheVariants as method
 use Rattle.ms_calls.specs.declared.part_texts.OfName.TheVariants as of_name
-use Rattle.ms_calls.specs.Arguments.{add_partition_call, add_partitions_call, add_partitions_req_call, alter_database_call, alter_partition_call, alter_partitions_call, alter_table_call, create_database_call, create_table_call, drop_database_call, drop_partition_call, drop_table_call, from_three, get_all_tables_call, get_database_call, get_databases_call, get_fields_call, get_next_notification_call, get_schema_call, get_table_call, get_table_objects_by_name_call, get_table_req_call, get_tables_call, has_valid_characters_reply, list_call, list_ps_call, rename_partition_call, set_ugi_reply}
+use Rattle.ms_calls.specs.Arguments.{add_partition_call, add_partitions_call, add_partitions_req_call, alter_database_call, alter_partition_call, alter_partitions_call, alter_table_call, create_database_call, create_table_call, delete_part_statistics_call, delete_statistics_call, drop_database_call, drop_partition_call, drop_table_call, from_one, from_three, get_all_tables_call, get_database_call, get_databases_call, get_fields_call, get_next_notification_call, get_part_statistics_call, get_schema_call, get_statistics_req_call, get_table_call, get_table_objects_by_name_call, get_table_req_call, get_tables_call, has_valid_characters_reply, list_call, list_some_call, rename_partition_call, set_ugi_reply}
 use Rattle.ms_calls.specs.Asked.{asked_by, client, name_asked, plain, SameByIds, OrderOfFieldsIsFree}
 use Rattle.ms_calls.specs.Methods.{method_named}
 use Rattle.ms_structs.specs.declared.got.Got.TheVariants.{Nothing}
@@ -12,6 +12,8 @@ use Rattle.ms_structs.specs.Database.{database_of}
 use Rattle.ms_structs.specs.Notifications.{request_of as poll_of}
 use Rattle.ms_structs.specs.Values.{flag_of, items_of, number_of, text_of}
 use Rattle.ms_structs.proofs.Said.{said_same}
+use Rattle.stat_structs.specs.Statistics.{statistics_of}
+use Rattle.stat_structs.specs.Requests.{request_of as statistics_request_of}
 use Rattle.table_structs.specs.Contexts.{context_of}
 use Rattle.table_structs.specs.PartRequests.{adding_of}
 use Rattle.table_structs.specs.Partitions.{partition_of}
@@ -62,13 +64,22 @@ order_by (Some method.GetPartition) v w same = λ i. client (from_three (said_sa
 order_by (Some method.GetPartitionByName) v w same = λ i. client (from_three (said_same (pos 1) text_code text_of v w same i) (said_same (pos 2) text_code text_of v w same i) (said_same (pos 3) text_code text_of v w same i) GetPartitionByName)
 order_by (Some method.GetPartitions) v w same = λ i. client (list_call (said_same (pos 1) text_code text_of v w same i) (said_same (pos 2) text_code text_of v w same i) (said_same (pos 3) i16_code number_of v w same i) GetPartitions)
 order_by (Some method.GetPartitionNames) v w same = λ i. client (list_call (said_same (pos 1) text_code text_of v w same i) (said_same (pos 2) text_code text_of v w same i) (said_same (pos 3) i16_code number_of v w same i) GetPartitionNames)
-order_by (Some method.GetPartitionsPs) v w same = λ i. client (list_ps_call (said_same (pos 1) text_code text_of v w same i) (said_same (pos 2) text_code text_of v w same i) (said_same (pos 3) list_code (items_of text_code text_of) v w same i) (said_same (pos 4) i16_code number_of v w same i) GetPartitionsPs)
-order_by (Some method.GetPartitionNamesPs) v w same = λ i. client (list_ps_call (said_same (pos 1) text_code text_of v w same i) (said_same (pos 2) text_code text_of v w same i) (said_same (pos 3) list_code (items_of text_code text_of) v w same i) (said_same (pos 4) i16_code number_of v w same i) GetPartitionNamesPs)
+order_by (Some method.GetPartitionsPs) v w same = λ i. client (list_some_call (said_same (pos 1) text_code text_of v w same i) (said_same (pos 2) text_code text_of v w same i) (said_same (pos 3) list_code (items_of text_code text_of) v w same i) (said_same (pos 4) i16_code number_of v w same i) GetPartitionsPs)
+order_by (Some method.GetPartitionNamesPs) v w same = λ i. client (list_some_call (said_same (pos 1) text_code text_of v w same i) (said_same (pos 2) text_code text_of v w same i) (said_same (pos 3) list_code (items_of text_code text_of) v w same i) (said_same (pos 4) i16_code number_of v w same i) GetPartitionNamesPs)
+order_by (Some method.GetPartitionsByFilter) v w same = λ i. client (list_some_call (said_same (pos 1) text_code text_of v w same i) (said_same (pos 2) text_code text_of v w same i) (said_same (pos 3) text_code text_of v w same i) (said_same (pos 4) i16_code number_of v w same i) GetPartitionsByFilter)
+order_by (Some method.GetNumPartitionsByFilter) v w same = λ i. client (from_three (said_same (pos 1) text_code text_of v w same i) (said_same (pos 2) text_code text_of v w same i) (said_same (pos 3) text_code text_of v w same i) GetNumPartitionsByFilter)
 order_by (Some method.GetPartitionsByNames) v w same = λ i. client (from_three (said_same (pos 1) text_code text_of v w same i) (said_same (pos 2) text_code text_of v w same i) (said_same (pos 3) list_code (items_of text_code text_of) v w same i) GetPartitionsByNames)
 order_by (Some method.AlterPartition) v w same = λ i. client (alter_partition_call (said_same (pos 1) text_code text_of v w same i) (said_same (pos 2) text_code text_of v w same i) (said_same (pos 3) struct_code partition_of v w same i) Nothing)
 order_by (Some method.AlterPartitionWithEnvironmentContext) v w same = λ i. client (alter_partition_call (said_same (pos 1) text_code text_of v w same i) (said_same (pos 2) text_code text_of v w same i) (said_same (pos 3) struct_code partition_of v w same i) (said_same (pos 4) struct_code context_of v w same i))
 order_by (Some method.AlterPartitions) v w same = λ i. client (alter_partitions_call (said_same (pos 1) text_code text_of v w same i) (said_same (pos 2) text_code text_of v w same i) (said_same (pos 3) list_code (items_of struct_code partition_of) v w same i))
 order_by (Some method.RenamePartition) v w same = λ i. client (rename_partition_call (said_same (pos 1) text_code text_of v w same i) (said_same (pos 2) text_code text_of v w same i) (said_same (pos 3) list_code (items_of text_code text_of) v w same i) (said_same (pos 4) struct_code partition_of v w same i))
+order_by (Some method.UpdateTableColumnStatistics) v w same = λ i. client (from_one (said_same (pos 1) struct_code statistics_of v w same i) UpdateTableColumnStatistics)
+order_by (Some method.UpdatePartitionColumnStatistics) v w same = λ i. client (from_one (said_same (pos 1) struct_code statistics_of v w same i) UpdatePartitionColumnStatistics)
+order_by (Some method.GetTableColumnStatistics) v w same = λ i. client (from_three (said_same (pos 1) text_code text_of v w same i) (said_same (pos 2) text_code text_of v w same i) (said_same (pos 3) text_code text_of v w same i) GetTableColumnStatistics)
+order_by (Some method.GetPartitionColumnStatistics) v w same = λ i. client (get_part_statistics_call (said_same (pos 1) text_code text_of v w same i) (said_same (pos 2) text_code text_of v w same i) (said_same (pos 3) text_code text_of v w same i) (said_same (pos 4) text_code text_of v w same i))
+order_by (Some method.DeleteTableColumnStatistics) v w same = λ i. client (delete_statistics_call (said_same (pos 1) text_code text_of v w same i) (said_same (pos 2) text_code text_of v w same i) (said_same (pos 3) text_code text_of v w same i))
+order_by (Some method.DeletePartitionColumnStatistics) v w same = λ i. client (delete_part_statistics_call (said_same (pos 1) text_code text_of v w same i) (said_same (pos 2) text_code text_of v w same i) (said_same (pos 3) text_code text_of v w same i) (said_same (pos 4) text_code text_of v w same i))
+order_by (Some method.GetTableStatisticsReq) v w same = λ i. client (get_statistics_req_call (said_same (pos 1) struct_code statistics_request_of v w same i))
 order_by (Some method.GetNextNotification) v w same = λ i. client (get_next_notification_call (said_same (pos 1) struct_code poll_of v w same i))
 order_by (Some method.GetCurrentNotificationEventId) v w same = refl
 

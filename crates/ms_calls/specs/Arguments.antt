@@ -3,30 +3,34 @@ use Rattle.std.specs.Prelude.{ℕ, nat_le, length, ◌==◌, Bool, true, false, 
 use Rattle.std.specs.List.{list_all}
 use Rattle.cat_types.specs.declared.arguments.DbArg.{DbArg}
 use Rattle.cat_types.specs.declared.arguments.PartArg.{PartArg}
+use Rattle.cat_types.specs.declared.arguments.StatsArg.{StatsArg}
 use Rattle.cat_types.specs.declared.arguments.TableArg.{TableArg}
 use Rattle.cat_types.specs.declared.calls.Call.{Call}
-use Rattle.cat_types.specs.declared.calls.Call.TheVariants.{AddPartition, AddPartitions, AlterDatabase, AlterPartition, AlterPartitions, AlterTable, AppendPartition, AppendPartitionByName, CreateDatabase, CreateTable, DropDatabase, DropPartition, DropPartitionByName, DropTable, GetAllTables, GetDatabase, GetDatabases, GetFields, GetNextNotification, GetPartition, GetPartitionByName, GetPartitionNames, GetPartitionNamesPs, GetPartitions, GetPartitionsByNames, GetPartitionsPs, GetSchema, GetTable, GetTableObjectsByName, GetTableReq, GetTables, RenamePartition}
+use Rattle.cat_types.specs.declared.calls.Call.TheVariants.{AddPartition, AddPartitions, AlterDatabase, AlterPartition, AlterPartitions, AlterTable, AppendPartition, AppendPartitionByName, CreateDatabase, CreateTable, DeletePartitionColumnStatistics, DeleteTableColumnStatistics, DropDatabase, DropPartition, DropPartitionByName, DropTable, GetAllTables, GetDatabase, GetDatabases, GetFields, GetNextNotification, GetNumPartitionsByFilter, GetPartition, GetPartitionByName, GetPartitionColumnStatistics, GetPartitionNames, GetPartitionNamesPs, GetPartitions, GetPartitionsByFilter, GetPartitionsByNames, GetPartitionsPs, GetSchema, GetTable, GetTableColumnStatistics, GetTableObjectsByName, GetTableReq, GetTableStatisticsReq, GetTables, RenamePartition, UpdatePartitionColumnStatistics, UpdateTableColumnStatistics}
 use Rattle.cat_types.specs.declared.replies.Reply.{Reply}
 use Rattle.cat_types.specs.declared.replies.Reply.TheVariants.{Flag, Names, Spec}
 use Rattle.ms_calls.specs.declared.of_partitions.OfFirstValues.{OfFirstValues}
 use Rattle.ms_calls.specs.declared.of_partitions.OfFirstValues.TheVariants as of_first_values
 use Rattle.ms_calls.specs.declared.of_partitions.OfLimit.{OfLimit}
 use Rattle.ms_calls.specs.declared.of_partitions.OfLimit.TheVariants as of_limit
-use Rattle.ms_calls.specs.declared.of_partitions.OfPartName.{OfPartName}
-use Rattle.ms_calls.specs.declared.of_partitions.OfPartName.TheVariants as of_part_name
 use Rattle.ms_calls.specs.declared.of_partitions.OfValues.{OfValues}
 use Rattle.ms_calls.specs.declared.of_partitions.OfValues.TheVariants as of_values
 use Rattle.ms_calls.specs.declared.of_texts.OfText.{OfText}
 use Rattle.ms_calls.specs.declared.of_texts.OfText.TheVariants as of_text
+use Rattle.ms_calls.specs.declared.of_texts.OfThreeTexts.{OfThreeTexts}
+use Rattle.ms_calls.specs.declared.of_texts.OfThreeTexts.TheVariants as of_three_texts
 use Rattle.ms_calls.specs.declared.of_texts.OfTwoTexts.{OfTwoTexts}
 use Rattle.ms_calls.specs.declared.of_texts.OfTwoTexts.TheVariants as of_two_texts
 use Rattle.ms_calls.specs.declared.part_texts.OfName.{OfName}
 use Rattle.ms_calls.specs.declared.part_texts.OfName.TheVariants as of_name
+use Rattle.ms_calls.specs.declared.statistics.UpdateStatistics.{UpdateStatistics}
+use Rattle.ms_calls.specs.declared.statistics.UpdateStatistics.TheVariants as update
 use Rattle.ms_calls.specs.Refusals.{invalid_request}
 use Rattle.ms_structs.specs.declared.got.Got.{Got}
 use Rattle.ms_structs.specs.declared.got.Got.TheVariants.{Nothing, BadText, Is}
 use Rattle.ms_structs.specs.declared.notification_request.NotificationRequest.{NotificationRequest}
 use Rattle.part_names.specs.Reading.{first_unreadable, spec, vals}
+use Rattle.stat_structs.specs.declared.requests.StatsRequest.{StatsRequest}
 use Rattle.table_structs.specs.declared.requests.TableRequest.{TableRequest}
 
 -- an argument that must be there and may have no bad text in it
@@ -40,6 +44,12 @@ abbrev pub given : {T : Type 0} → ℤ → T → Got T → Result T ℤ
 given id absent Nothing = Ok absent
 given id absent BadText = Err id
 given id absent (Is value) = Ok value
+
+-- an argument that may be absent, and then stays so
+abbrev pub optional : {T : Type 0} → ℤ → Got T → Result (Option T) ℤ
+optional id Nothing = Ok None
+optional id BadText = Err id
+optional id (Is value) = Ok (Some value)
 
 -- goes on with a value, where no argument was wrong so far
 abbrev pub and_then : {A B : Type 0} → Result A ℤ → (A → Result B ℤ) → Result B ℤ
@@ -90,18 +100,20 @@ call_of_two_texts of_two_texts.GetTable db table = GetTable db table
 call_of_two_texts of_two_texts.GetFields db table = GetFields db table
 call_of_two_texts of_two_texts.GetSchema db table = GetSchema db table
 
+-- the call that a database, a table and another text make: a partition's name, a filter, a column
+abbrev pub call_of_three_texts : OfThreeTexts → List ℕ → List ℕ → List ℕ → Call
+call_of_three_texts of_three_texts.AppendPartitionByName db table name = AppendPartitionByName db table name
+call_of_three_texts of_three_texts.DropPartitionByName db table name = DropPartitionByName db table name
+call_of_three_texts of_three_texts.GetPartitionByName db table name = GetPartitionByName db table name
+call_of_three_texts of_three_texts.GetNumPartitionsByFilter db table filter = GetNumPartitionsByFilter db table filter
+call_of_three_texts of_three_texts.GetTableColumnStatistics db table col = GetTableColumnStatistics db table col
+
 -- the call that a database, a table and values make, or names of partitions
 abbrev pub call_of_values : OfValues → List ℕ → List ℕ → List (List ℕ) → Call
 call_of_values of_values.AppendPartition db table values = AppendPartition db table values
 call_of_values of_values.DropPartition db table values = DropPartition db table values
 call_of_values of_values.GetPartition db table values = GetPartition db table values
 call_of_values of_values.GetPartitionsByNames db table names = GetPartitionsByNames db table names
-
--- the call that a database, a table and a partition's name make
-abbrev pub call_of_part_name : OfPartName → List ℕ → List ℕ → List ℕ → Call
-call_of_part_name of_part_name.AppendPartitionByName db table name = AppendPartitionByName db table name
-call_of_part_name of_part_name.DropPartitionByName db table name = DropPartitionByName db table name
-call_of_part_name of_part_name.GetPartitionByName db table name = GetPartitionByName db table name
 
 -- the call that a database, a table and a limit make
 abbrev pub call_of_limit : OfLimit → List ℕ → List ℕ → ℤ → Call
@@ -215,9 +227,9 @@ no_limit = negsuc 0
 abbrev pub list_call : Got (List ℕ) → Got (List ℕ) → Got ℤ → (List ℕ → List ℕ → ℤ → Call) → Result Call ℤ
 list_call db table max make = and_then (needed_two db table) (λ all. and_then (given (pos 3) no_limit max) (λ max. Ok (make all.0 all.1 max)))
 
--- get_partitions_ps and get_partition_names_ps: 1 the database, 2 the table, 3 the first values, 4 how many at most
-abbrev pub list_ps_call : Got (List ℕ) → Got (List ℕ) → Got (List (List ℕ)) → Got ℤ → (List ℕ → List ℕ → List (List ℕ) → ℤ → Call) → Result Call ℤ
-list_ps_call db table values max make = and_then (needed_three db table values) (λ all. and_then (given (pos 4) no_limit max) (λ max. Ok (make all.0 all.1 all.2 max)))
+-- get_partitions_ps, get_partition_names_ps and get_partitions_by_filter: 1 the database, 2 the table, 3 which are wanted, by their first values or by a filter, 4 how many at most
+abbrev pub list_some_call : {A : Type 0} → Got (List ℕ) → Got (List ℕ) → Got A → Got ℤ → (List ℕ → List ℕ → A → ℤ → Call) → Result Call ℤ
+list_some_call db table wanted max make = and_then (needed_three db table wanted) (λ all. and_then (given (pos 4) no_limit max) (λ max. Ok (make all.0 all.1 all.2 max)))
 
 -- alter_partition: 1 the database, 2 the table, 3 the partition, and in its other spelling 4 a context, of which nothing is used
 abbrev pub alter_partition_call : Got (List ℕ) → Got (List ℕ) → Got PartArg → Got ⊤ → Result Call ℤ
@@ -230,6 +242,29 @@ alter_partitions_call db table parts = from_three db table parts AlterPartitions
 -- rename_partition: 1 the database, 2 the table, 3 the values, 4 the partition with its new values
 abbrev pub rename_partition_call : Got (List ℕ) → Got (List ℕ) → Got (List (List ℕ)) → Got PartArg → Result Call ℤ
 rename_partition_call db table values part = from_four db table values part RenamePartition
+
+-- ---- statistics of columns
+
+-- the call that gives columns of a table, or of a partition, these statistics
+abbrev pub call_of_statistics : UpdateStatistics → StatsArg → Call
+call_of_statistics update.OfTable stats = UpdateTableColumnStatistics stats
+call_of_statistics update.OfPartition stats = UpdatePartitionColumnStatistics stats
+
+-- get_partition_column_statistics: 1 the database, 2 the table, 3 the partition's name, 4 the column
+abbrev pub get_part_statistics_call : Got (List ℕ) → Got (List ℕ) → Got (List ℕ) → Got (List ℕ) → Result Call ℤ
+get_part_statistics_call db table part col = from_four db table part col GetPartitionColumnStatistics
+
+-- delete_table_column_statistics: 1 the database, 2 the table, 3 the column, which may be absent
+abbrev pub delete_statistics_call : Got (List ℕ) → Got (List ℕ) → Got (List ℕ) → Result Call ℤ
+delete_statistics_call db table col = and_then (needed_two db table) (λ all. and_then (optional (pos 3) col) (λ col. Ok (DeleteTableColumnStatistics all.0 all.1 col)))
+
+-- get_table_statistics_req: 1 the request, whose names may be absent
+abbrev pub get_statistics_req_call : Got StatsRequest → Result Call ℤ
+get_statistics_req_call request = from_one request (λ request. GetTableStatisticsReq request.db request.table request.cols)
+
+-- delete_partition_column_statistics: 1 the database, 2 the table, 3 the partition's name, 4 the column, which may be absent
+abbrev pub delete_part_statistics_call : Got (List ℕ) → Got (List ℕ) → Got (List ℕ) → Got (List ℕ) → Result Call ℤ
+delete_part_statistics_call db table part col = and_then (needed_three db table part) (λ all. and_then (optional (pos 4) col) (λ col. Ok (DeletePartitionColumnStatistics all.0 all.1 all.2 col)))
 
 -- ---- names of partitions, which need no catalogue
 

@@ -2,16 +2,17 @@
 use Rattle.std.specs.Prelude.{◌≡◌, ◌⊎◌, ⊤, ℕ, Bool, List, [], ◌∷◌, Option, None, Some, ℤ, pos, Result, Ok, Err, codes}
 use Rattle.cat_types.specs.declared.arguments.DbArg.{DbArg}
 use Rattle.cat_types.specs.declared.arguments.PartArg.{PartArg}
+use Rattle.cat_types.specs.declared.arguments.StatsArg.{StatsArg}
 use Rattle.cat_types.specs.declared.arguments.TableArg.{TableArg}
 use Rattle.cat_types.specs.declared.calls.Call.{Call}
-use Rattle.cat_types.specs.declared.calls.Call.TheVariants.{AddPartition, AddPartitions, AddPartitionsReq, AlterDatabase, AlterPartition, AlterPartitions, AlterTable, AppendPartition, AppendPartitionByName, CreateDatabase, CreateTable, DropDatabase, DropPartition, DropPartitionByName, DropTable, GetAllDatabases, GetAllTables, GetCurrentNotificationEventId, GetDatabase, GetDatabases, GetFields, GetNextNotification, GetPartition, GetPartitionByName, GetPartitionNames, GetPartitionNamesPs, GetPartitions, GetPartitionsByNames, GetPartitionsPs, GetSchema, GetTable, GetTableObjectsByName, GetTableReq, GetTables, RenamePartition}
+use Rattle.cat_types.specs.declared.calls.Call.TheVariants.{AddPartition, AddPartitions, AddPartitionsReq, AlterDatabase, AlterPartition, AlterPartitions, AlterTable, AppendPartition, AppendPartitionByName, CreateDatabase, CreateTable, DeletePartitionColumnStatistics, DeleteTableColumnStatistics, DropDatabase, DropPartition, DropPartitionByName, DropTable, GetAllDatabases, GetAllTables, GetCurrentNotificationEventId, GetDatabase, GetDatabases, GetFields, GetNextNotification, GetNumPartitionsByFilter, GetPartition, GetPartitionByName, GetPartitionColumnStatistics, GetPartitionNames, GetPartitionNamesPs, GetPartitions, GetPartitionsByFilter, GetPartitionsByNames, GetPartitionsPs, GetSchema, GetTable, GetTableColumnStatistics, GetTableObjectsByName, GetTableReq, GetTableStatisticsReq, GetTables, RenamePartition, UpdatePartitionColumnStatistics, UpdateTableColumnStatistics}
 use Rattle.cat_types.specs.declared.replies.Reply.{Reply}
 use Rattle.cat_types.specs.declared.replies.Reply.TheVariants.{Names, Nothing, Number}
 use Rattle.ms_calls.specs.declared.request.Asked.{Asked}
 use Rattle.ms_calls.specs.declared.request.Asked.TheVariants.{BadArgument, Client, Plain, Unknown, Shutdown}
 use Rattle.ms_calls.specs.declared.method.Method.{Method}
 use Rattle.ms_calls.specs.declared.method.Method.TheVariants as method
-use Rattle.ms_calls.specs.Arguments.{add_partition_call, add_partitions_call, add_partitions_req_call, alter_database_call, alter_partition_call, alter_partitions_call, alter_table_call, create_database_call, create_table_call, drop_database_call, drop_partition_call, drop_table_call, from_one, from_three, get_all_tables_call, get_database_call, get_databases_call, get_fields_call, get_next_notification_call, get_schema_call, get_table_call, get_table_objects_by_name_call, get_table_req_call, get_tables_call, has_valid_characters_reply, list_call, list_ps_call, name_reply, rename_partition_call, set_ugi_reply}
+use Rattle.ms_calls.specs.Arguments.{add_partition_call, add_partitions_call, add_partitions_req_call, alter_database_call, alter_partition_call, alter_partitions_call, alter_table_call, create_database_call, create_table_call, delete_part_statistics_call, delete_statistics_call, drop_database_call, drop_partition_call, drop_table_call, from_one, from_three, get_all_tables_call, get_database_call, get_databases_call, get_fields_call, get_next_notification_call, get_part_statistics_call, get_schema_call, get_statistics_req_call, get_table_call, get_table_objects_by_name_call, get_table_req_call, get_tables_call, has_valid_characters_reply, list_call, list_some_call, name_reply, rename_partition_call, set_ugi_reply}
 use Rattle.ms_calls.specs.declared.part_texts.OfName.{OfName}
 use Rattle.ms_calls.specs.declared.part_texts.OfName.TheVariants as of_name
 use Rattle.ms_structs.specs.Database.{database_of}
@@ -20,6 +21,8 @@ use Rattle.ms_calls.specs.Methods.{method_named}
 use Rattle.ms_structs.specs.declared.got.Got.{Got}
 use Rattle.ms_structs.specs.declared.got.Got.TheVariants as got
 use Rattle.ms_structs.specs.Slots.{only, said}
+use Rattle.stat_structs.specs.Statistics.{statistics_of}
+use Rattle.stat_structs.specs.Requests.{request_of as statistics_request_of}
 use Rattle.table_structs.specs.Contexts.{context_of}
 use Rattle.table_structs.specs.PartRequests.{adding_of}
 use Rattle.table_structs.specs.Partitions.{partition_of}
@@ -81,6 +84,10 @@ partition_at id v = said id struct_code partition_of v
 abbrev pub partitions_at : ℤ → Fields → Got (List PartArg)
 partitions_at id v = said id list_code (items_of struct_code partition_of) v
 
+-- a ColumnStatistics
+abbrev pub statistics_at : ℤ → Fields → Got StatsArg
+statistics_at id v = said id struct_code statistics_of v
+
 -- an EnvironmentContext
 abbrev pub context_at : ℤ → Fields → Got ⊤
 context_at id v = said id struct_code context_of v
@@ -128,13 +135,22 @@ asked_by (Some method.GetPartition) v = client (from_three (text_at (pos 1) v) (
 asked_by (Some method.GetPartitionByName) v = client (from_three (text_at (pos 1) v) (text_at (pos 2) v) (text_at (pos 3) v) GetPartitionByName)
 asked_by (Some method.GetPartitions) v = client (list_call (text_at (pos 1) v) (text_at (pos 2) v) (limit_at (pos 3) v) GetPartitions)
 asked_by (Some method.GetPartitionNames) v = client (list_call (text_at (pos 1) v) (text_at (pos 2) v) (limit_at (pos 3) v) GetPartitionNames)
-asked_by (Some method.GetPartitionsPs) v = client (list_ps_call (text_at (pos 1) v) (text_at (pos 2) v) (texts_at (pos 3) v) (limit_at (pos 4) v) GetPartitionsPs)
-asked_by (Some method.GetPartitionNamesPs) v = client (list_ps_call (text_at (pos 1) v) (text_at (pos 2) v) (texts_at (pos 3) v) (limit_at (pos 4) v) GetPartitionNamesPs)
+asked_by (Some method.GetPartitionsPs) v = client (list_some_call (text_at (pos 1) v) (text_at (pos 2) v) (texts_at (pos 3) v) (limit_at (pos 4) v) GetPartitionsPs)
+asked_by (Some method.GetPartitionNamesPs) v = client (list_some_call (text_at (pos 1) v) (text_at (pos 2) v) (texts_at (pos 3) v) (limit_at (pos 4) v) GetPartitionNamesPs)
+asked_by (Some method.GetPartitionsByFilter) v = client (list_some_call (text_at (pos 1) v) (text_at (pos 2) v) (text_at (pos 3) v) (limit_at (pos 4) v) GetPartitionsByFilter)
+asked_by (Some method.GetNumPartitionsByFilter) v = client (from_three (text_at (pos 1) v) (text_at (pos 2) v) (text_at (pos 3) v) GetNumPartitionsByFilter)
 asked_by (Some method.GetPartitionsByNames) v = client (from_three (text_at (pos 1) v) (text_at (pos 2) v) (texts_at (pos 3) v) GetPartitionsByNames)
 asked_by (Some method.AlterPartition) v = client (alter_partition_call (text_at (pos 1) v) (text_at (pos 2) v) (partition_at (pos 3) v) got.Nothing)
 asked_by (Some method.AlterPartitionWithEnvironmentContext) v = client (alter_partition_call (text_at (pos 1) v) (text_at (pos 2) v) (partition_at (pos 3) v) (context_at (pos 4) v))
 asked_by (Some method.AlterPartitions) v = client (alter_partitions_call (text_at (pos 1) v) (text_at (pos 2) v) (partitions_at (pos 3) v))
 asked_by (Some method.RenamePartition) v = client (rename_partition_call (text_at (pos 1) v) (text_at (pos 2) v) (texts_at (pos 3) v) (partition_at (pos 4) v))
+asked_by (Some method.UpdateTableColumnStatistics) v = client (from_one (statistics_at (pos 1) v) UpdateTableColumnStatistics)
+asked_by (Some method.UpdatePartitionColumnStatistics) v = client (from_one (statistics_at (pos 1) v) UpdatePartitionColumnStatistics)
+asked_by (Some method.GetTableColumnStatistics) v = client (from_three (text_at (pos 1) v) (text_at (pos 2) v) (text_at (pos 3) v) GetTableColumnStatistics)
+asked_by (Some method.GetPartitionColumnStatistics) v = client (get_part_statistics_call (text_at (pos 1) v) (text_at (pos 2) v) (text_at (pos 3) v) (text_at (pos 4) v))
+asked_by (Some method.DeleteTableColumnStatistics) v = client (delete_statistics_call (text_at (pos 1) v) (text_at (pos 2) v) (text_at (pos 3) v))
+asked_by (Some method.DeletePartitionColumnStatistics) v = client (delete_part_statistics_call (text_at (pos 1) v) (text_at (pos 2) v) (text_at (pos 3) v) (text_at (pos 4) v))
+asked_by (Some method.GetTableStatisticsReq) v = client (get_statistics_req_call (said (pos 1) struct_code statistics_request_of v))
 asked_by (Some method.GetNextNotification) v = client (get_next_notification_call (said (pos 1) struct_code poll_of v))
 asked_by (Some method.GetCurrentNotificationEventId) v = Client GetCurrentNotificationEventId
 
@@ -189,10 +205,19 @@ IsMethodOf (GetPartitions db table max) named = named ≡ method.GetPartitions
 IsMethodOf (GetPartitionNames db table max) named = named ≡ method.GetPartitionNames
 IsMethodOf (GetPartitionsPs db table values max) named = named ≡ method.GetPartitionsPs
 IsMethodOf (GetPartitionNamesPs db table values max) named = named ≡ method.GetPartitionNamesPs
+IsMethodOf (GetPartitionsByFilter db table filter max) named = named ≡ method.GetPartitionsByFilter
+IsMethodOf (GetNumPartitionsByFilter db table filter) named = named ≡ method.GetNumPartitionsByFilter
 IsMethodOf (GetPartitionsByNames db table names) named = named ≡ method.GetPartitionsByNames
 IsMethodOf (AlterPartition db table part) named = (named ≡ method.AlterPartition) ⊎ (named ≡ method.AlterPartitionWithEnvironmentContext)
 IsMethodOf (AlterPartitions db table parts) named = named ≡ method.AlterPartitions
 IsMethodOf (RenamePartition db table values part) named = named ≡ method.RenamePartition
+IsMethodOf (UpdateTableColumnStatistics stats) named = named ≡ method.UpdateTableColumnStatistics
+IsMethodOf (UpdatePartitionColumnStatistics stats) named = named ≡ method.UpdatePartitionColumnStatistics
+IsMethodOf (GetTableColumnStatistics db table col) named = named ≡ method.GetTableColumnStatistics
+IsMethodOf (GetPartitionColumnStatistics db table part col) named = named ≡ method.GetPartitionColumnStatistics
+IsMethodOf (DeleteTableColumnStatistics db table col) named = named ≡ method.DeleteTableColumnStatistics
+IsMethodOf (DeletePartitionColumnStatistics db table part col) named = named ≡ method.DeletePartitionColumnStatistics
+IsMethodOf (GetTableStatisticsReq db table cols) named = named ≡ method.GetTableStatisticsReq
 IsMethodOf (GetNextNotification last max) named = named ≡ method.GetNextNotification
 IsMethodOf GetCurrentNotificationEventId named = named ≡ method.GetCurrentNotificationEventId
 

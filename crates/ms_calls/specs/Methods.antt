@@ -2,11 +2,11 @@
 use Rattle.std.specs.Prelude.{ℕ, List, [], ◌∷◌, Option, None, Some, codes, if◌then◌else◌}
 use Rattle.std.specs.Str.{bytes_eq}
 use Rattle.ms_calls.specs.declared.exception.Exception.{Exception}
-use Rattle.ms_calls.specs.declared.exception.Exception.TheVariants.{AlreadyExists, NoSuchObject, InvalidObject, InvalidOperation, Meta}
+use Rattle.ms_calls.specs.declared.exception.Exception.TheVariants.{AlreadyExists, NoSuchObject, InvalidObject, InvalidOperation, InvalidInput, Meta}
 use Rattle.ms_calls.specs.declared.method.Method.{Method}
 use Rattle.ms_calls.specs.declared.method.Method.TheVariants as method
 use Rattle.ms_calls.specs.declared.method.ResultType.{ResultType}
-use Rattle.ms_calls.specs.declared.method.ResultType.TheVariants.{NoReply, NoField, EmptyStruct, OneText, TextList, Flag, TextMap, Int, Database, OneTable, TableResult, TableList, ColumnList, OnePart, PartList, PartsResult, Events, NewestEvent}
+use Rattle.ms_calls.specs.declared.method.ResultType.TheVariants.{NoReply, NoField, EmptyStruct, OneText, TextList, Flag, TextMap, Int, Database, OneTable, TableResult, TableList, ColumnList, OnePart, PartList, PartsResult, Statistics, StatisticsResult, Events, NewestEvent}
 
 -- the call of the server itself whose messages have this name
 unfoldable pub server_named : List ℕ → Option Method
@@ -73,12 +73,26 @@ held_part_named name =
     else (if bytes_eq name (codes "get_partition_names") then Some method.GetPartitionNames
     else (if bytes_eq name (codes "get_partitions_ps") then Some method.GetPartitionsPs
     else (if bytes_eq name (codes "get_partition_names_ps") then Some method.GetPartitionNamesPs
+    else (if bytes_eq name (codes "get_partitions_by_filter") then Some method.GetPartitionsByFilter
+    else (if bytes_eq name (codes "get_num_partitions_by_filter") then Some method.GetNumPartitionsByFilter
     else (if bytes_eq name (codes "get_partitions_by_names") then Some method.GetPartitionsByNames
     else (if bytes_eq name (codes "alter_partition") then Some method.AlterPartition
     else (if bytes_eq name (codes "alter_partition_with_environment_context") then Some method.AlterPartitionWithEnvironmentContext
     else (if bytes_eq name (codes "alter_partitions") then Some method.AlterPartitions
     else (if bytes_eq name (codes "rename_partition") then Some method.RenamePartition
-    else None))))))))))
+    else None))))))))))))
+
+-- the call on statistics of columns whose messages have this name
+unfoldable pub statistics_named : List ℕ → Option Method
+statistics_named name =
+    if bytes_eq name (codes "update_table_column_statistics") then Some method.UpdateTableColumnStatistics
+    else (if bytes_eq name (codes "update_partition_column_statistics") then Some method.UpdatePartitionColumnStatistics
+    else (if bytes_eq name (codes "get_table_column_statistics") then Some method.GetTableColumnStatistics
+    else (if bytes_eq name (codes "get_partition_column_statistics") then Some method.GetPartitionColumnStatistics
+    else (if bytes_eq name (codes "delete_table_column_statistics") then Some method.DeleteTableColumnStatistics
+    else (if bytes_eq name (codes "delete_partition_column_statistics") then Some method.DeletePartitionColumnStatistics
+    else (if bytes_eq name (codes "get_table_statistics_req") then Some method.GetTableStatisticsReq
+    else None))))))
 
 -- the call of events whose messages have this name
 unfoldable pub event_named : List ℕ → Option Method
@@ -94,7 +108,7 @@ first_of None other = other
 
 -- the call whose messages have this name
 unfoldable pub method_named : List ℕ → Option Method
-method_named name = first_of (server_named name) (first_of (database_named name) (first_of (table_named name) (first_of (new_part_named name) (first_of (held_part_named name) (event_named name)))))
+method_named name = first_of (server_named name) (first_of (database_named name) (first_of (table_named name) (first_of (new_part_named name) (first_of (held_part_named name) (first_of (statistics_named name) (event_named name))))))
 
 -- what a call results in
 abbrev pub result_type : Method → ResultType
@@ -140,11 +154,20 @@ result_type method.GetPartitions = PartList
 result_type method.GetPartitionNames = TextList
 result_type method.GetPartitionsPs = PartList
 result_type method.GetPartitionNamesPs = TextList
+result_type method.GetPartitionsByFilter = PartList
+result_type method.GetNumPartitionsByFilter = Int
 result_type method.GetPartitionsByNames = PartList
 result_type method.AlterPartition = NoField
 result_type method.AlterPartitionWithEnvironmentContext = NoField
 result_type method.AlterPartitions = NoField
 result_type method.RenamePartition = NoField
+result_type method.UpdateTableColumnStatistics = Flag
+result_type method.UpdatePartitionColumnStatistics = Flag
+result_type method.GetTableColumnStatistics = Statistics
+result_type method.GetPartitionColumnStatistics = Statistics
+result_type method.DeleteTableColumnStatistics = Flag
+result_type method.DeletePartitionColumnStatistics = Flag
+result_type method.GetTableStatisticsReq = StatisticsResult
 result_type method.GetNextNotification = Events
 result_type method.GetCurrentNotificationEventId = NewestEvent
 
@@ -192,10 +215,19 @@ exceptions_of method.GetPartitions = NoSuchObject ∷ Meta ∷ []
 exceptions_of method.GetPartitionNames = NoSuchObject ∷ Meta ∷ []
 exceptions_of method.GetPartitionsPs = Meta ∷ NoSuchObject ∷ []
 exceptions_of method.GetPartitionNamesPs = Meta ∷ NoSuchObject ∷ []
+exceptions_of method.GetPartitionsByFilter = Meta ∷ NoSuchObject ∷ []
+exceptions_of method.GetNumPartitionsByFilter = Meta ∷ NoSuchObject ∷ []
 exceptions_of method.GetPartitionsByNames = Meta ∷ NoSuchObject ∷ []
 exceptions_of method.AlterPartition = InvalidOperation ∷ Meta ∷ []
 exceptions_of method.AlterPartitionWithEnvironmentContext = InvalidOperation ∷ Meta ∷ []
 exceptions_of method.AlterPartitions = InvalidOperation ∷ Meta ∷ []
 exceptions_of method.RenamePartition = InvalidOperation ∷ Meta ∷ []
+exceptions_of method.UpdateTableColumnStatistics = NoSuchObject ∷ InvalidObject ∷ Meta ∷ InvalidInput ∷ []
+exceptions_of method.UpdatePartitionColumnStatistics = NoSuchObject ∷ InvalidObject ∷ Meta ∷ InvalidInput ∷ []
+exceptions_of method.GetTableColumnStatistics = NoSuchObject ∷ Meta ∷ InvalidInput ∷ InvalidObject ∷ []
+exceptions_of method.GetPartitionColumnStatistics = NoSuchObject ∷ Meta ∷ InvalidInput ∷ InvalidObject ∷ []
+exceptions_of method.DeleteTableColumnStatistics = NoSuchObject ∷ Meta ∷ InvalidObject ∷ InvalidInput ∷ []
+exceptions_of method.DeletePartitionColumnStatistics = NoSuchObject ∷ Meta ∷ InvalidObject ∷ InvalidInput ∷ []
+exceptions_of method.GetTableStatisticsReq = NoSuchObject ∷ Meta ∷ []
 exceptions_of method.GetNextNotification = Meta ∷ []
 exceptions_of method.GetCurrentNotificationEventId = Meta ∷ []

@@ -1,15 +1,17 @@
 -- What is read by each plan: the arguments of its shape, and what is made of them.
 use Rattle.std.specs.Prelude.{[], ◌∷◌, pos}
-use Rattle.cat_types.specs.declared.calls.Call.TheVariants.{GetAllDatabases, GetCurrentNotificationEventId}
+use Rattle.cat_types.specs.declared.calls.Call.TheVariants.{GetAllDatabases, GetCurrentNotificationEventId, GetPartitionsByFilter}
 use Rattle.cat_types.specs.declared.replies.Reply.TheVariants.{Names, Nothing, Number}
-use Rattle.ms_calls.specs.Arguments.{add_partition_call, add_partitions_call, add_partitions_req_call, alter_database_call, alter_partition_call, alter_partitions_call, alter_table_call, call_of_first_values, call_of_limit, call_of_part_name, call_of_text, call_of_two_texts, call_of_values, create_database_call, create_table_call, drop_database_call, drop_partition_call, drop_table_call, from_one, from_three, from_two, get_next_notification_call, get_table_objects_by_name_call, get_table_req_call, has_valid_characters_reply, list_call, list_ps_call, rename_partition_call, set_ugi_reply}
-use Rattle.ms_calls.specs.Asked.{client, context_at, database_at, flag_at, limit_at, name_asked, partition_at, partitions_at, plain, server_name, table_at, text_at, texts_at}
+use Rattle.ms_calls.specs.Arguments.{add_partition_call, add_partitions_call, add_partitions_req_call, alter_database_call, alter_partition_call, alter_partitions_call, alter_table_call, call_of_first_values, call_of_limit, call_of_statistics, call_of_text, call_of_three_texts, call_of_two_texts, call_of_values, create_database_call, create_table_call, delete_part_statistics_call, delete_statistics_call, drop_database_call, drop_partition_call, drop_table_call, from_one, from_three, from_two, get_next_notification_call, get_part_statistics_call, get_statistics_req_call, get_table_objects_by_name_call, get_table_req_call, has_valid_characters_reply, list_call, list_some_call, rename_partition_call, set_ugi_reply}
+use Rattle.ms_calls.specs.Asked.{client, context_at, database_at, flag_at, limit_at, name_asked, partition_at, partitions_at, plain, server_name, statistics_at, table_at, text_at, texts_at}
 use Rattle.ms_calls.specs.declared.plan.Bare.{Bare}
 use Rattle.ms_calls.specs.declared.plan.Bare.TheVariants as bare
 use Rattle.ms_calls.specs.declared.plan.OnDatabase.{OnDatabase}
 use Rattle.ms_calls.specs.declared.plan.OnDatabase.TheVariants as on_database
 use Rattle.ms_calls.specs.declared.plan.OnPartition.{OnPartition}
 use Rattle.ms_calls.specs.declared.plan.OnPartition.TheVariants as on_partition
+use Rattle.ms_calls.specs.declared.plan.OnStatistics.{OnStatistics}
+use Rattle.ms_calls.specs.declared.plan.OnStatistics.TheVariants as on_statistics
 use Rattle.ms_calls.specs.declared.plan.OnTable.{OnTable}
 use Rattle.ms_calls.specs.declared.plan.OnTable.TheVariants as on_table
 use Rattle.ms_calls.specs.declared.plan.Plan.{Plan}
@@ -19,6 +21,7 @@ use Rattle.ms_calls.specs.declared.request.Asked.TheVariants.{Client, Plain, Shu
 use Rattle.ms_structs.specs.declared.got.Got.TheVariants as got
 use Rattle.ms_structs.specs.Notifications.{request_of as poll_of}
 use Rattle.ms_structs.specs.Slots.{said}
+use Rattle.stat_structs.specs.Requests.{request_of as statistics_request_of}
 use Rattle.table_structs.specs.PartRequests.{adding_of}
 use Rattle.table_structs.specs.Requests.{request_of}
 use Rattle.thrift_binary.specs.Codes.{struct_code}
@@ -56,10 +59,19 @@ planned_on_partition on_partition.AddPartitionWithContext v = client (add_partit
 planned_on_partition on_partition.AddPartitions v = client (add_partitions_call (partitions_at (pos 1) v))
 planned_on_partition on_partition.AddPartitionsReq v = client (add_partitions_req_call (said (pos 1) struct_code adding_of v))
 planned_on_partition on_partition.DropPartitionWithContext v = client (drop_partition_call (text_at (pos 1) v) (text_at (pos 2) v) (texts_at (pos 3) v) (context_at (pos 5) v))
+planned_on_partition on_partition.GetPartitionsByFilter v = client (list_some_call (text_at (pos 1) v) (text_at (pos 2) v) (text_at (pos 3) v) (limit_at (pos 4) v) GetPartitionsByFilter)
 planned_on_partition on_partition.AlterPartition v = client (alter_partition_call (text_at (pos 1) v) (text_at (pos 2) v) (partition_at (pos 3) v) got.Nothing)
 planned_on_partition on_partition.AlterPartitionWithContext v = client (alter_partition_call (text_at (pos 1) v) (text_at (pos 2) v) (partition_at (pos 3) v) (context_at (pos 4) v))
 planned_on_partition on_partition.AlterPartitions v = client (alter_partitions_call (text_at (pos 1) v) (text_at (pos 2) v) (partitions_at (pos 3) v))
 planned_on_partition on_partition.RenamePartition v = client (rename_partition_call (text_at (pos 1) v) (text_at (pos 2) v) (texts_at (pos 3) v) (partition_at (pos 4) v))
+
+-- what a call on statistics of columns asks, with arguments of a shape of its own
+abbrev pub planned_on_statistics : OnStatistics → Fields → Asked
+planned_on_statistics (on_statistics.Update call) v = client (from_one (statistics_at (pos 1) v) (call_of_statistics call))
+planned_on_statistics on_statistics.GetPartition v = client (get_part_statistics_call (text_at (pos 1) v) (text_at (pos 2) v) (text_at (pos 3) v) (text_at (pos 4) v))
+planned_on_statistics on_statistics.DeleteTable v = client (delete_statistics_call (text_at (pos 1) v) (text_at (pos 2) v) (text_at (pos 3) v))
+planned_on_statistics on_statistics.DeletePartition v = client (delete_part_statistics_call (text_at (pos 1) v) (text_at (pos 2) v) (text_at (pos 3) v) (text_at (pos 4) v))
+planned_on_statistics on_statistics.GetByRequest v = client (get_statistics_req_call (said (pos 1) struct_code statistics_request_of v))
 
 -- what a call asks whose arguments are read by this plan
 abbrev pub planned : Plan → Fields → Asked
@@ -68,13 +80,14 @@ planned plan.GetName v = Plain (Names (server_name ∷ []))
 planned plan.SetUgi v = plain (set_ugi_reply (text_at (pos 1) v) (texts_at (pos 2) v))
 planned (plan.OfText call) v = client (from_one (text_at (pos 1) v) (call_of_text call))
 planned (plan.OfTwoTexts call) v = client (from_two (text_at (pos 1) v) (text_at (pos 2) v) (call_of_two_texts call))
+planned (plan.OfThreeTexts call) v = client (from_three (text_at (pos 1) v) (text_at (pos 2) v) (text_at (pos 3) v) (call_of_three_texts call))
 planned (plan.OnDatabase call) v = planned_on_database call v
 planned (plan.OnTable call) v = planned_on_table call v
 planned (plan.OfName call) v = name_asked call (text_at (pos 1) v)
 planned plan.HasValidCharacters v = plain (has_valid_characters_reply (texts_at (pos 1) v) (flag_at (pos 2) v))
 planned (plan.OfValues call) v = client (from_three (text_at (pos 1) v) (text_at (pos 2) v) (texts_at (pos 3) v) (call_of_values call))
-planned (plan.OfPartName call) v = client (from_three (text_at (pos 1) v) (text_at (pos 2) v) (text_at (pos 3) v) (call_of_part_name call))
 planned (plan.OfLimit call) v = client (list_call (text_at (pos 1) v) (text_at (pos 2) v) (limit_at (pos 3) v) (call_of_limit call))
-planned (plan.OfFirstValues call) v = client (list_ps_call (text_at (pos 1) v) (text_at (pos 2) v) (texts_at (pos 3) v) (limit_at (pos 4) v) (call_of_first_values call))
+planned (plan.OfFirstValues call) v = client (list_some_call (text_at (pos 1) v) (text_at (pos 2) v) (texts_at (pos 3) v) (limit_at (pos 4) v) (call_of_first_values call))
 planned (plan.OnPartition call) v = planned_on_partition call v
+planned (plan.OnStatistics call) v = planned_on_statistics call v
 planned plan.GetNextNotification v = client (get_next_notification_call (said (pos 1) struct_code poll_of v))

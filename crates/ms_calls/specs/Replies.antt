@@ -1,6 +1,8 @@
 -- The reply to a message: which replies a call can have, and how each is sent.
-use Rattle.std.specs.Prelude.{ℕ, List, [], ◌∷◌, map, Option, None, Some, IsSome, ℤ, pos}
+use Rattle.std.specs.Prelude.{ℕ, Bool, true, false, List, [], ◌∷◌, map, Option, None, Some, IsSome, ℤ, pos}
+use Rattle.cat_types.specs.declared.arguments.StatsDesc.{StatsDesc}
 use Rattle.cat_types.specs.declared.named.NamedPart.{NamedPart}
+use Rattle.cat_types.specs.declared.named.NamedStat.{NamedStat}
 use Rattle.cat_types.specs.declared.named.NamedTable.{NamedTable}
 use Rattle.cat_types.specs.declared.replies.Reply.{Reply}
 use Rattle.cat_types.specs.declared.replies.Reply.TheVariants as reply
@@ -15,6 +17,8 @@ use Rattle.ms_calls.specs.Methods.{result_type}
 use Rattle.ms_calls.specs.Exceptions.{general_code, declared_id}
 use Rattle.ms_structs.specs.Notifications.{events_fields, newest_fields}
 use Rattle.ms_structs.specs.Written.{items_tree, params_tree, texts_tree, database_fields}
+use Rattle.stat_structs.specs.Statistics.{statistics_tree}
+use Rattle.stat_structs.specs.Requests.{statistics_result}
 use Rattle.table_structs.specs.Columns.{column_tree}
 use Rattle.table_structs.specs.Partitions.{partition_tree}
 use Rattle.table_structs.specs.PartRequests.{partitions_result}
@@ -51,6 +55,20 @@ one_part [] = None
 one_part (part ∷ []) = Some (Field struct_code (pos 0) (partition_tree part) NoFields)
 one_part (part ∷ more ∷ parts) = None
 
+-- statistics are a table's, unless a partition is named
+abbrev pub is_table_level : Option (List ℕ) → Bool
+is_table_level None = true
+is_table_level (Some part) = false
+
+-- they were taken when the first of them was
+abbrev pub taken_at : List NamedStat → Option ℤ
+taken_at [] = None
+taken_at (stat ∷ stats) = Some stat.rec.analyzed
+
+-- of what statistics are
+abbrev pub desc_of : List ℕ → List ℕ → Option (List ℕ) → List NamedStat → StatsDesc
+desc_of db table part stats = record { table_level = is_table_level part; db = Some db; table = Some table; part = part; analyzed = taken_at stats }
+
 -- A result of this type stands under field 0; where there is none, so does no field. What is no result of the type has no fields to be sent as, so a result that is forgotten here can't be replied.
 abbrev pub result_fields : ResultType → Reply → Option Fields
 result_fields of.NoField reply.Nothing = Some NoFields
@@ -69,6 +87,8 @@ result_fields of.OnePart (reply.Parts parts) = one_part parts
 result_fields of.PartList (reply.Parts parts) = Some (Field list_code (pos 0) (items_tree struct_code partition_tree parts) NoFields)
 result_fields of.PartsResult (reply.Parts parts) = Some (Field struct_code (pos 0) (partitions_result (Some parts)) NoFields)
 result_fields of.PartsResult reply.Nothing = Some (Field struct_code (pos 0) (partitions_result None) NoFields)
+result_fields of.Statistics (reply.ColumnStats db table part stats) = Some (Field struct_code (pos 0) (statistics_tree (desc_of db table part stats) stats) NoFields)
+result_fields of.StatisticsResult (reply.Stats stats) = Some (Field struct_code (pos 0) (statistics_result stats) NoFields)
 result_fields of.Events (reply.Events events) = Some (Field struct_code (pos 0) (Struct (events_fields events (map message_text events))) NoFields)
 result_fields of.NewestEvent (reply.Big number) = Some (Field struct_code (pos 0) (Struct (newest_fields number)) NoFields)
 result_fields type reply = None
@@ -121,6 +141,8 @@ reply_kind (reply.Fields columns) = codes.reply_kind
 reply_kind (reply.Db name rec) = codes.reply_kind
 reply_kind (reply.Tables tables) = codes.reply_kind
 reply_kind (reply.Parts parts) = codes.reply_kind
+reply_kind (reply.Stats stats) = codes.reply_kind
+reply_kind (reply.ColumnStats db table part stats) = codes.reply_kind
 reply_kind (reply.Events events) = codes.reply_kind
 
 -- a reply repeats the message's name and sequence id

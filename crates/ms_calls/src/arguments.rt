@@ -3,7 +3,7 @@
 ghost use Rattle.std.specs.Prelude.{◌≡◌, ◌≤◌, ℤ, None, Result, IsErrOf};
 ghost use Rattle.cat_types.specs.declared.calls.Call.{Call};
 ghost use Rattle.hms_outside.specs.Causes.{Rose, StaysBut};
-ghost use Rattle.ms_calls.specs.Arguments.{from_four, given, needed, needed_three, needed_two, with_context};
+ghost use Rattle.ms_calls.specs.Arguments.{from_four, given, needed, needed_three, needed_two, optional, with_context};
 ghost use Rattle.ms_calls.specs.Asked.{client};
 ghost use Rattle.ms_structs.specs.Getting.{ReadsTree};
 ghost use Rattle.thrift_binary.specs.Codes.{struct_code};
@@ -106,6 +106,17 @@ pub fn given<T: Drop>(id: i16, absent: T, got: Got<T>) -> Result<T, i16>
     match got {
         Got::Is(value) => Ok(value),
         Got::Nothing => Ok(absent),
+        Got::BadText => Err(id),
+    }
+}
+
+/// An argument that may be absent, and then stays so; or its id, where a text in it isn't UTF-8.
+pub fn optional<T: Drop>(id: i16, got: Got<T>) -> Result<Option<T>, i16>
+    ensures { result ≡ optional id got }
+{
+    match got {
+        Got::Is(value) => Ok(Some(value)),
+        Got::Nothing => Ok(None),
         Got::BadText => Err(id),
     }
 }

@@ -6,7 +6,7 @@ ghost use Rattle.cat_types.specs.declared.replies.Reply.TheVariants.{Names};
 ghost use Rattle.ms_calls.specs.Arguments.{has_valid_characters_reply, set_ugi_reply};
 ghost use Rattle.ms_calls.specs.Asked.{CameAs, IfClient, IfPlain, asked_by, asked_of, flag_at, name_asked, plain, server_name, text_at, texts_at};
 ghost use Rattle.ms_calls.specs.Methods.{method_named};
-ghost use Rattle.ms_calls.specs.Plans.{bare_asked, planned, planned_on_database, planned_on_partition, planned_on_table};
+ghost use Rattle.ms_calls.specs.Plans.{bare_asked, planned, planned_on_database, planned_on_partition, planned_on_statistics, planned_on_table};
 ghost use Rattle.ms_calls.specs.Replies.{CanReply};
 ghost use Rattle.ms_structs.specs.Getting.{ReadsTree};
 ghost use Rattle.thrift_binary.specs.Codes.{struct_code};
@@ -15,16 +15,21 @@ ghost use Rattle.thrift_binary.specs.Wire.{IsWire, StopsWire};
 
 use crate::arguments::read_call;
 use crate::databases::{AlterDatabase, CreateDatabase, DropDatabase};
-use crate::of_partitions::{OfFirstValues, OfLimit, OfPartName, OfValues};
-use crate::of_texts::{OfText, OfTwoTexts};
+use crate::of_partitions::{OfFirstValues, OfLimit, OfValues};
+use crate::of_texts::{OfText, OfThreeTexts, OfTwoTexts};
 use crate::part_texts::{OfName, has_valid_characters};
 use crate::partitions::{
     AddPartition, AddPartitionWithContext, AddPartitions, AddPartitionsReq, AlterPartition,
-    AlterPartitionWithContext, AlterPartitions, DropPartitionWithContext, RenamePartition,
+    AlterPartitionWithContext, AlterPartitions, DropPartitionWithContext, GetPartitionsByFilter,
+    RenamePartition,
 };
-use crate::plan::{Bare, OnDatabase, OnPartition, OnTable, Plan, plan_of};
+use crate::plan::{Bare, OnDatabase, OnPartition, OnStatistics, OnTable, Plan, plan_of};
 use crate::server::{GetNextNotification, server_name, set_ugi};
 use crate::slots::{One, Shape, Two};
+use crate::statistics::{
+    DeletePartitionColumnStatistics, DeleteTableColumnStatistics, GetPartitionColumnStatistics,
+    GetTableStatisticsReq, UpdateStatistics,
+};
 use crate::tables::{
     AlterTable, AlterTableWithContext, CreateTable, CreateTableWithContext, DropTableWithContext,
     GetTableObjectsByName, GetTableReq,
@@ -107,15 +112,16 @@ fn read_plan<S: Source>(
         Plan::SetUgi => ask_set_ugi(alloc, reader),
         Plan::OfText(call) => read_call::<OfText, S>(alloc, call, reader),
         Plan::OfTwoTexts(call) => read_call::<OfTwoTexts, S>(alloc, call, reader),
+        Plan::OfThreeTexts(call) => read_call::<OfThreeTexts, S>(alloc, call, reader),
         Plan::OnDatabase(call) => read_database_call(alloc, call, reader),
         Plan::OnTable(call) => read_table_call(alloc, call, reader),
         Plan::OfName(call) => ask_name(alloc, call, reader),
         Plan::HasValidCharacters => ask_valid_characters(alloc, reader),
         Plan::OfValues(call) => read_call::<OfValues, S>(alloc, call, reader),
-        Plan::OfPartName(call) => read_call::<OfPartName, S>(alloc, call, reader),
         Plan::OfLimit(call) => read_call::<OfLimit, S>(alloc, call, reader),
         Plan::OfFirstValues(call) => read_call::<OfFirstValues, S>(alloc, call, reader),
         Plan::OnPartition(call) => read_partition_call(alloc, call, reader),
+        Plan::OnStatistics(call) => read_statistics_call(alloc, call, reader),
         Plan::GetNextNotification => read_call::<GetNextNotification, S>(
             alloc,
             GetNextNotification,
@@ -212,6 +218,11 @@ fn read_partition_call<S: Source>(
             DropPartitionWithContext,
             reader,
         ),
+        OnPartition::GetPartitionsByFilter => read_call::<GetPartitionsByFilter, S>(
+            alloc,
+            GetPartitionsByFilter,
+            reader,
+        ),
         OnPartition::AlterPartition => read_call::<AlterPartition, S>(
             alloc,
             AlterPartition,
@@ -230,6 +241,43 @@ fn read_partition_call<S: Source>(
         OnPartition::RenamePartition => read_call::<RenamePartition, S>(
             alloc,
             RenamePartition,
+            reader,
+        ),
+    }
+}
+
+// Reads the arguments of a call on statistics of columns.
+fn read_statistics_call<S: Source>(
+    alloc: Global,
+    call: OnStatistics,
+    reader: &mut WireReader<'_, S>,
+) -> Result<Asked, WireFault>
+    ensures same_source { reader.new.source.ghost_name ≡ reader.old.source.ghost_name }
+    ensures later { S.faults reader.old.source.now ≤ S.faults reader.new.source.now }
+    ensures cause { reader.old.progress.fault ≡ None → IsErrOf result WireFault.ReadFault → Rose (S.faults reader.old.source.now) (S.faults reader.new.source.now) }
+    ensures stays { StaysBut WireFault.ReadFault result (S.faults reader.old.source.now) (S.faults reader.new.source.now) }
+    ensures reads { ReadsTree (S.left reader.old.source.now) (S.left reader.new.source.now) reader.old.progress reader.new.progress result (λ v. IsWire (Struct v) reader.old.progress.room struct_code) (λ v asked. asked ≡ planned_on_statistics call v) (StopsWire reader.old.progress.room struct_code) }
+{
+    match call {
+        OnStatistics::Update(call) => read_call::<UpdateStatistics, S>(alloc, call, reader),
+        OnStatistics::GetPartition => read_call::<GetPartitionColumnStatistics, S>(
+            alloc,
+            GetPartitionColumnStatistics,
+            reader,
+        ),
+        OnStatistics::DeleteTable => read_call::<DeleteTableColumnStatistics, S>(
+            alloc,
+            DeleteTableColumnStatistics,
+            reader,
+        ),
+        OnStatistics::DeletePartition => read_call::<DeletePartitionColumnStatistics, S>(
+            alloc,
+            DeletePartitionColumnStatistics,
+            reader,
+        ),
+        OnStatistics::GetByRequest => read_call::<GetTableStatisticsReq, S>(
+            alloc,
+            GetTableStatisticsReq,
             reader,
         ),
     }

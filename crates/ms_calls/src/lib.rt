@@ -18,6 +18,7 @@ mod reply;
 mod request;
 mod server;
 mod slots;
+mod statistics;
 mod tables;
 
 pub use asking::{asked, asked_by};

@@ -1,7 +1,7 @@
 //! The calls that are known.
 
 ghost use Rattle.std.specs.Prelude.{◌≡◌, ◌<◌, length};
-ghost use Rattle.ms_calls.specs.Methods.{database_named, event_named, exceptions_of, held_part_named, method_named, new_part_named, result_type, server_named, table_named};
+ghost use Rattle.ms_calls.specs.Methods.{database_named, event_named, exceptions_of, held_part_named, method_named, new_part_named, result_type, server_named, statistics_named, table_named};
 
 use crate::Exception;
 
@@ -50,11 +50,20 @@ pub enum Method {
     GetPartitionNames,
     GetPartitionsPs,
     GetPartitionNamesPs,
+    GetPartitionsByFilter,
+    GetNumPartitionsByFilter,
     GetPartitionsByNames,
     AlterPartition,
     AlterPartitionWithEnvironmentContext,
     AlterPartitions,
     RenamePartition,
+    UpdateTableColumnStatistics,
+    UpdatePartitionColumnStatistics,
+    GetTableColumnStatistics,
+    GetPartitionColumnStatistics,
+    DeleteTableColumnStatistics,
+    DeletePartitionColumnStatistics,
+    GetTableStatisticsReq,
     GetNextNotification,
     GetCurrentNotificationEventId,
 }
@@ -94,6 +103,10 @@ pub enum ResultType {
     PartList,
     /// A struct with a list of partitions in it, or without one.
     PartsResult,
+    /// Statistics of columns, and of which table or partition they are.
+    Statistics,
+    /// A struct with a list of statistics of columns in it.
+    StatisticsResult,
     /// Events, each with its message.
     Events,
     /// The number of the newest event.
@@ -118,6 +131,9 @@ pub fn method_named(name: &str) -> Option<Method>
         return Some(method);
     }
     if let Some(method) = held_part_named(name) {
+        return Some(method);
+    }
+    if let Some(method) = statistics_named(name) {
         return Some(method);
     }
     event_named(name)
@@ -215,6 +231,8 @@ fn held_part_named(name: &str) -> Option<Method>
         "get_partition_names" => Some(Method::GetPartitionNames),
         "get_partitions_ps" => Some(Method::GetPartitionsPs),
         "get_partition_names_ps" => Some(Method::GetPartitionNamesPs),
+        "get_partitions_by_filter" => Some(Method::GetPartitionsByFilter),
+        "get_num_partitions_by_filter" => Some(Method::GetNumPartitionsByFilter),
         "get_partitions_by_names" => Some(Method::GetPartitionsByNames),
         "alter_partition" => Some(Method::AlterPartition),
         "alter_partition_with_environment_context" => Some(
@@ -222,6 +240,23 @@ fn held_part_named(name: &str) -> Option<Method>
         ),
         "alter_partitions" => Some(Method::AlterPartitions),
         "rename_partition" => Some(Method::RenamePartition),
+        _ => None,
+    }
+}
+
+// The call on statistics of columns whose messages have this name.
+#[tactic(auto, unfolding(crate::specs::Methods::statistics_named))]
+fn statistics_named(name: &str) -> Option<Method>
+    ensures { result ≡ statistics_named name.now }
+{
+    match name {
+        "update_table_column_statistics" => Some(Method::UpdateTableColumnStatistics),
+        "update_partition_column_statistics" => Some(Method::UpdatePartitionColumnStatistics),
+        "get_table_column_statistics" => Some(Method::GetTableColumnStatistics),
+        "get_partition_column_statistics" => Some(Method::GetPartitionColumnStatistics),
+        "delete_table_column_statistics" => Some(Method::DeleteTableColumnStatistics),
+        "delete_partition_column_statistics" => Some(Method::DeletePartitionColumnStatistics),
+        "get_table_statistics_req" => Some(Method::GetTableStatisticsReq),
         _ => None,
     }
 }
@@ -245,7 +280,9 @@ impl Method {
     {
         match self {
             Method::GetName => ResultType::OneText,
-            Method::GetStatus | Method::AddPartitions => ResultType::Int,
+            Method::GetStatus | Method::AddPartitions | Method::GetNumPartitionsByFilter => {
+                ResultType::Int
+            }
             Method::Shutdown => ResultType::NoReply,
             Method::SetUgi
             | Method::PartitionNameToVals
@@ -258,7 +295,11 @@ impl Method {
             Method::PartitionNameHasValidCharacters
             | Method::DropPartition
             | Method::DropPartitionWithEnvironmentContext
-            | Method::DropPartitionByName => ResultType::Flag,
+            | Method::DropPartitionByName
+            | Method::UpdateTableColumnStatistics
+            | Method::UpdatePartitionColumnStatistics
+            | Method::DeleteTableColumnStatistics
+            | Method::DeletePartitionColumnStatistics => ResultType::Flag,
             Method::PartitionNameToSpec => ResultType::TextMap,
             Method::GetAllFunctions => ResultType::EmptyStruct,
             Method::CreateDatabase
@@ -286,9 +327,14 @@ impl Method {
             | Method::GetPartition
             | Method::GetPartitionByName => ResultType::OnePart,
             Method::AddPartitionsReq => ResultType::PartsResult,
-            Method::GetPartitions | Method::GetPartitionsPs | Method::GetPartitionsByNames => {
-                ResultType::PartList
+            Method::GetPartitions
+            | Method::GetPartitionsPs
+            | Method::GetPartitionsByFilter
+            | Method::GetPartitionsByNames => ResultType::PartList,
+            Method::GetTableColumnStatistics | Method::GetPartitionColumnStatistics => {
+                ResultType::Statistics
             }
+            Method::GetTableStatisticsReq => ResultType::StatisticsResult,
             Method::GetNextNotification => ResultType::Events,
             Method::GetCurrentNotificationEventId => ResultType::NewestEvent,
         }
@@ -327,7 +373,8 @@ impl Method {
             | Method::DropPartitionWithEnvironmentContext
             | Method::DropPartitionByName
             | Method::GetPartitions
-            | Method::GetPartitionNames => &[Exception::NoSuchObject, Exception::Meta],
+            | Method::GetPartitionNames
+            | Method::GetTableStatisticsReq => &[Exception::NoSuchObject, Exception::Meta],
             Method::DropDatabase => &[
                 Exception::NoSuchObject,
                 Exception::InvalidOperation,
@@ -340,6 +387,8 @@ impl Method {
             | Method::GetPartitionByName
             | Method::GetPartitionsPs
             | Method::GetPartitionNamesPs
+            | Method::GetPartitionsByFilter
+            | Method::GetNumPartitionsByFilter
             | Method::GetPartitionsByNames => &[Exception::Meta, Exception::NoSuchObject],
             Method::CreateTable | Method::CreateTableWithEnvironmentContext => &[
                 Exception::AlreadyExists,
@@ -363,6 +412,24 @@ impl Method {
             | Method::AlterPartitionWithEnvironmentContext
             | Method::AlterPartitions
             | Method::RenamePartition => &[Exception::InvalidOperation, Exception::Meta],
+            Method::UpdateTableColumnStatistics | Method::UpdatePartitionColumnStatistics => &[
+                Exception::NoSuchObject,
+                Exception::InvalidObject,
+                Exception::Meta,
+                Exception::InvalidInput,
+            ],
+            Method::GetTableColumnStatistics | Method::GetPartitionColumnStatistics => &[
+                Exception::NoSuchObject,
+                Exception::Meta,
+                Exception::InvalidInput,
+                Exception::InvalidObject,
+            ],
+            Method::DeleteTableColumnStatistics | Method::DeletePartitionColumnStatistics => &[
+                Exception::NoSuchObject,
+                Exception::Meta,
+                Exception::InvalidObject,
+                Exception::InvalidInput,
+            ],
         }
     }
 }

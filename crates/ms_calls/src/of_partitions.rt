@@ -1,15 +1,15 @@
-//! What calls on partitions make of names, values and limits.
+//! What calls on partitions make of values and limits.
 
 ghost use Rattle.std.specs.Prelude.{◌≡◌, ℤ, Result};
-ghost use Rattle.ms_calls.specs.Arguments.{call_of_first_values, call_of_limit, call_of_part_name, call_of_values, from_three, list_call, list_ps_call};
+ghost use Rattle.ms_calls.specs.Arguments.{call_of_first_values, call_of_limit, call_of_values, from_three, list_call, list_some_call};
 
 use crate::arguments::{Ask, given, needed_three, needed_two};
 use crate::limit::Limit;
 use crate::slots::{Four, Three};
 use cat_types::{Call, Text, Texts};
 
-// The limit that counts where none is given: all are wanted.
-const NO_LIMIT: i16 = -1;
+/// The limit that counts where none is given: all are wanted.
+pub const NO_LIMIT: i16 = -1;
 
 /// A call with a database, a table, and values or names of partitions.
 #[derive(Clone, Copy)]
@@ -46,38 +46,6 @@ impl Ask for OfValues {
     fn make(self, slots: Three<Text, Text, Texts>) -> Result<Call, i16> {
         let (db, table, values) = needed_three(slots.first, slots.second, slots.third)?;
         Ok(self.call(db, table, values))
-    }
-}
-
-/// A call with a database, a table and the name of a partition.
-#[derive(Clone, Copy)]
-pub enum OfPartName {
-    AppendPartitionByName,
-    DropPartitionByName,
-    GetPartitionByName,
-}
-
-impl OfPartName {
-    // The call with these arguments.
-    fn call(self, db: Text, table: Text, name: Text) -> Call
-        ensures { result ≡ call_of_part_name self db table name }
-    {
-        match self {
-            OfPartName::AppendPartitionByName => Call::AppendPartitionByName { db, table, name },
-            OfPartName::DropPartitionByName => Call::DropPartitionByName { db, table, name },
-            OfPartName::GetPartitionByName => Call::GetPartitionByName { db, table, name },
-        }
-    }
-}
-
-impl Ask for OfPartName {
-    type Slots = Three<Text, Text, Text>;
-
-    ghost makes = { λ call slots. from_three slots.first slots.second slots.third (call_of_part_name call) };
-
-    fn make(self, slots: Three<Text, Text, Text>) -> Result<Call, i16> {
-        let (db, table, name) = needed_three(slots.first, slots.second, slots.third)?;
-        Ok(self.call(db, table, name))
     }
 }
 
@@ -144,7 +112,7 @@ impl OfFirstValues {
 impl Ask for OfFirstValues {
     type Slots = Four<Text, Text, Texts, Limit>;
 
-    ghost makes = { λ call slots. list_ps_call slots.first slots.second slots.third slots.fourth (call_of_first_values call) };
+    ghost makes = { λ call slots. list_some_call slots.first slots.second slots.third slots.fourth (call_of_first_values call) };
 
     fn make(self, slots: Four<Text, Text, Texts, Limit>) -> Result<Call, i16> {
         let (db, table, values) = needed_three(slots.first, slots.second, slots.third)?;

@@ -1,10 +1,13 @@
 //! What the calls on partitions make of their arguments. Of a context nothing is used.
 
 ghost use Rattle.std.specs.Prelude.{◌≡◌, ℤ, Result};
-ghost use Rattle.ms_calls.specs.Arguments.{add_partition_call, add_partitions_call, add_partitions_req_call, alter_partition_call, alter_partitions_call, drop_partition_call, rename_partition_call};
+ghost use Rattle.cat_types.specs.declared.calls.Call.TheVariants.{GetPartitionsByFilter};
+ghost use Rattle.ms_calls.specs.Arguments.{add_partition_call, add_partitions_call, add_partitions_req_call, alter_partition_call, alter_partitions_call, drop_partition_call, list_some_call, rename_partition_call};
 ghost use Rattle.ms_structs.specs.declared.got.Got.TheVariants.{Nothing};
 
-use crate::arguments::{Ask, needed, needed_four, needed_three, with_context};
+use crate::arguments::{Ask, given, needed, needed_four, needed_three, with_context};
+use crate::limit::Limit;
+use crate::of_partitions::NO_LIMIT;
 use crate::slots::{Five, Four, One, Three, Two};
 use cat_types::{Call, ListOf, Text, Texts};
 use table_structs::{AddPartitionsFields, ContextFields, PartitionFields};
@@ -85,6 +88,27 @@ impl Ask for DropPartitionWithContext {
             needed_three(slots.first, slots.second, slots.third),
         )?;
         Ok(Call::DropPartition { db, table, values })
+    }
+}
+
+/// `get_partitions_by_filter`: the database, the table, the filter, and how many are wanted at most.
+#[derive(Clone, Copy)]
+pub struct GetPartitionsByFilter;
+
+impl Ask for GetPartitionsByFilter {
+    type Slots = Four<Text, Text, Text, Limit>;
+
+    ghost makes = { λ _ slots. list_some_call slots.first slots.second slots.third slots.fourth GetPartitionsByFilter };
+
+    fn make(self, slots: Four<Text, Text, Text, Limit>) -> Result<Call, i16> {
+        let (db, table, filter) = needed_three(slots.first, slots.second, slots.third)?;
+        let max = given(4, NO_LIMIT, slots.fourth)?;
+        Ok(Call::GetPartitionsByFilter {
+            db,
+            table,
+            filter,
+            max,
+        })
     }
 }
 

@@ -5,9 +5,10 @@ ghost use Rattle.ms_calls.specs.Asked.{asked_by};
 ghost use Rattle.ms_calls.specs.Plans.{bare_asked, planned};
 ghost use Rattle.thrift_binary.specs.Tree.{Fields};
 
-use crate::of_partitions::{OfFirstValues, OfLimit, OfPartName, OfValues};
-use crate::of_texts::{OfText, OfTwoTexts};
+use crate::of_partitions::{OfFirstValues, OfLimit, OfValues};
+use crate::of_texts::{OfText, OfThreeTexts, OfTwoTexts};
 use crate::part_texts::OfName;
+use crate::statistics::UpdateStatistics;
 use crate::{Asked, Method};
 use cat_types::{Call, Reply};
 
@@ -20,15 +21,16 @@ pub enum Plan {
     SetUgi,
     OfText(OfText),
     OfTwoTexts(OfTwoTexts),
+    OfThreeTexts(OfThreeTexts),
     OnDatabase(OnDatabase),
     OnTable(OnTable),
     OfName(OfName),
     HasValidCharacters,
     OfValues(OfValues),
-    OfPartName(OfPartName),
     OfLimit(OfLimit),
     OfFirstValues(OfFirstValues),
     OnPartition(OnPartition),
+    OnStatistics(OnStatistics),
     GetNextNotification,
 }
 
@@ -71,10 +73,21 @@ pub enum OnPartition {
     AddPartitions,
     AddPartitionsReq,
     DropPartitionWithContext,
+    GetPartitionsByFilter,
     AlterPartition,
     AlterPartitionWithContext,
     AlterPartitions,
     RenamePartition,
+}
+
+/// A call on statistics of columns whose arguments have a shape of their own.
+#[derive(Clone, Copy)]
+pub enum OnStatistics {
+    Update(UpdateStatistics),
+    GetPartition,
+    DeleteTable,
+    DeletePartition,
+    GetByRequest,
 }
 
 impl Bare {
@@ -142,19 +155,27 @@ pub fn plan_of(method: Option<Method>) -> Plan
         Some(Method::AddPartitions) => Plan::OnPartition(OnPartition::AddPartitions),
         Some(Method::AddPartitionsReq) => Plan::OnPartition(OnPartition::AddPartitionsReq),
         Some(Method::AppendPartition) => Plan::OfValues(OfValues::AppendPartition),
-        Some(Method::AppendPartitionByName) => Plan::OfPartName(OfPartName::AppendPartitionByName),
+        Some(Method::AppendPartitionByName) => Plan::OfThreeTexts(
+            OfThreeTexts::AppendPartitionByName,
+        ),
         Some(Method::DropPartition) => Plan::OfValues(OfValues::DropPartition),
         Some(Method::DropPartitionWithEnvironmentContext) => Plan::OnPartition(
             OnPartition::DropPartitionWithContext,
         ),
-        Some(Method::DropPartitionByName) => Plan::OfPartName(OfPartName::DropPartitionByName),
+        Some(Method::DropPartitionByName) => Plan::OfThreeTexts(OfThreeTexts::DropPartitionByName),
         Some(Method::GetPartition) => Plan::OfValues(OfValues::GetPartition),
-        Some(Method::GetPartitionByName) => Plan::OfPartName(OfPartName::GetPartitionByName),
+        Some(Method::GetPartitionByName) => Plan::OfThreeTexts(OfThreeTexts::GetPartitionByName),
         Some(Method::GetPartitions) => Plan::OfLimit(OfLimit::GetPartitions),
         Some(Method::GetPartitionNames) => Plan::OfLimit(OfLimit::GetPartitionNames),
         Some(Method::GetPartitionsPs) => Plan::OfFirstValues(OfFirstValues::GetPartitionsPs),
         Some(Method::GetPartitionNamesPs) => Plan::OfFirstValues(
             OfFirstValues::GetPartitionNamesPs,
+        ),
+        Some(Method::GetPartitionsByFilter) => Plan::OnPartition(
+            OnPartition::GetPartitionsByFilter,
+        ),
+        Some(Method::GetNumPartitionsByFilter) => Plan::OfThreeTexts(
+            OfThreeTexts::GetNumPartitionsByFilter,
         ),
         Some(Method::GetPartitionsByNames) => Plan::OfValues(OfValues::GetPartitionsByNames),
         Some(Method::AlterPartition) => Plan::OnPartition(OnPartition::AlterPartition),
@@ -163,6 +184,23 @@ pub fn plan_of(method: Option<Method>) -> Plan
         ),
         Some(Method::AlterPartitions) => Plan::OnPartition(OnPartition::AlterPartitions),
         Some(Method::RenamePartition) => Plan::OnPartition(OnPartition::RenamePartition),
+        Some(Method::UpdateTableColumnStatistics) => Plan::OnStatistics(OnStatistics::Update(
+            UpdateStatistics::OfTable,
+        )),
+        Some(Method::UpdatePartitionColumnStatistics) => Plan::OnStatistics(OnStatistics::Update(
+            UpdateStatistics::OfPartition,
+        )),
+        Some(Method::GetTableColumnStatistics) => Plan::OfThreeTexts(
+            OfThreeTexts::GetTableColumnStatistics,
+        ),
+        Some(Method::GetPartitionColumnStatistics) => Plan::OnStatistics(
+            OnStatistics::GetPartition,
+        ),
+        Some(Method::DeleteTableColumnStatistics) => Plan::OnStatistics(OnStatistics::DeleteTable),
+        Some(Method::DeletePartitionColumnStatistics) => Plan::OnStatistics(
+            OnStatistics::DeletePartition,
+        ),
+        Some(Method::GetTableStatisticsReq) => Plan::OnStatistics(OnStatistics::GetByRequest),
         Some(Method::GetNextNotification) => Plan::GetNextNotification,
         Some(Method::GetCurrentNotificationEventId) => {
             Plan::Bare(Bare::GetCurrentNotificationEventId)

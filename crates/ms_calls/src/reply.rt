@@ -8,6 +8,8 @@ ghost use Rattle.thrift_binary.specs.Strict.{fields_bytes, message_bytes, wire_b
 ghost use Rattle.thrift_binary.specs.Tree.{Field, NoFields, Struct};
 ghost use Rattle.ms_structs.specs.Notifications.{events_fields, newest_fields};
 ghost use Rattle.ms_structs.specs.Written.{items_tree, params_tree};
+ghost use Rattle.stat_structs.specs.Statistics.{statistics_tree};
+ghost use Rattle.stat_structs.specs.Requests.{statistics_result};
 ghost use Rattle.table_structs.specs.Columns.{column_tree};
 ghost use Rattle.table_structs.specs.PartRequests.{partitions_result};
 ghost use Rattle.table_structs.specs.Partitions.{partition_tree};
@@ -15,19 +17,20 @@ ghost use Rattle.table_structs.specs.Requests.{table_result};
 ghost use Rattle.table_structs.specs.Tables.{table_tree};
 ghost use Rattle.notify_log.specs.Messages.{message_text};
 ghost use Rattle.ms_calls.specs.Methods.{method_named};
-ghost use Rattle.ms_calls.specs.Replies.{CanReply, declared_fields, exception_tree, general_fields, one_part, one_table, one_text, or_none, refused_as, reply_fields, reply_head, reply_kind, result_fields, table_in_struct};
+ghost use Rattle.ms_calls.specs.Replies.{CanReply, declared_fields, desc_of, exception_tree, general_fields, one_part, one_table, one_text, or_none, refused_as, reply_fields, reply_head, reply_kind, result_fields, table_in_struct, taken_at};
 
 use crate::exception::{declared_id, general_code};
 use crate::{Method, ResultType, method_named};
 use cat_types::{
-    Columns, Event, Events, ListOf, NamedPart, NamedTable, NoMemory, Params, Parts, Reply, Tables,
-    Text, Texts,
+    Columns, CopyParts, Event, Events, ListOf, NamedPart, NamedStats, NamedTable, NoMemory, Params,
+    Parts, Reply, StatsDesc, Tables, Text, Texts,
 };
 use ms_structs::{
     ToWire, put_list, put_texts, write_current_notification_event_id, write_database,
     write_get_all_functions_response, write_notification_event_response,
 };
 use notify_log::message;
+use stat_structs::{write_column_statistics, write_table_stats_result};
 use std::alloc::Global;
 use table_structs::{
     ColumnFields, PartitionFields, TableFields, write_add_partitions_result,
@@ -86,7 +89,7 @@ fn reply_kind(reply: &Reply) -> u8
         Reply::Nothing | Reply::Flag(_) | Reply::Number(_) | Reply::Big(_) => message_kind::REPLY,
         Reply::Names(_) | Reply::Spec(_) | Reply::Fields(_) => message_kind::REPLY,
         Reply::Db(_, _) | Reply::Tables(_) | Reply::Parts(_) => message_kind::REPLY,
-        Reply::Events(_) => message_kind::REPLY,
+        Reply::Stats(_) | Reply::ColumnStats { .. } | Reply::Events(_) => message_kind::REPLY,
     }
 }
 
@@ -154,6 +157,16 @@ fn put_result(
         (ResultType::PartList, Reply::Parts(parts)) => put_parts(writer, parts),
         (ResultType::PartsResult, Reply::Parts(parts)) => put_parts_result(writer, Some(parts)),
         (ResultType::PartsResult, Reply::Nothing) => put_parts_result(writer, None),
+        (
+            ResultType::Statistics,
+            Reply::ColumnStats {
+                db,
+                table,
+                part,
+                stats,
+            },
+        ) => put_statistics(alloc, writer, db, table, part, stats),
+        (ResultType::StatisticsResult, Reply::Stats(stats)) => put_statistics_result(writer, stats),
         (ResultType::Events, Reply::Events(events)) => put_events(alloc, writer, events),
         (ResultType::NewestEvent, Reply::Big(number)) => put_newest(writer, *number),
         _ => unreachable!(),
@@ -267,6 +280,63 @@ fn put_parts_result(writer: &mut WireWriter, parts: Option<&Parts>) -> Result<()
 {
     writer.field(type_code::STRUCT, 0)?;
     write_add_partitions_result(writer, parts)
+}
+
+// Statistics, and of what they are, under field 0.
+fn put_statistics(
+    alloc: Global,
+    writer: &mut WireWriter,
+    db: &Text,
+    table: &Text,
+    part: &Option<Text>,
+    stats: &NamedStats,
+) -> Result<(), NoMemory>
+    ensures { Gathers writer.old writer.new result (fields_bytes (Field struct_code (pos 0) (statistics_tree (desc_of db.now table.now part.now stats.now) stats.now) NoFields)) }
+{
+    let desc = desc_of(alloc, db, table, part, stats)?;
+    writer.field(type_code::STRUCT, 0)?;
+    write_column_statistics(writer, &desc, stats)
+}
+
+// Of what statistics are: of a table, unless a partition is named; they were taken when the first of
+// them was.
+fn desc_of(
+    alloc: Global,
+    db: &Text,
+    table: &Text,
+    part: &Option<Text>,
+    stats: &NamedStats,
+) -> Result<StatsDesc, NoMemory>
+    ensures { IfOk result (λ desc. desc ≡ desc_of db.now table.now part.now stats.now) }
+{
+    match (db, table, part).copy_parts(alloc) {
+        Ok((db, table, part)) => Ok(StatsDesc {
+            table_level: part.is_none(),
+            db: Some(db),
+            table: Some(table),
+            part,
+            analyzed: taken_at(stats),
+        }),
+        Err(NoMemory) => Err(NoMemory),
+    }
+}
+
+// When the first of these statistics was taken.
+fn taken_at(stats: &NamedStats) -> Option<i64>
+    ensures { result ≡ taken_at stats.now }
+{
+    match stats.as_slice() {
+        [stat, ..] => Some(stat.rec.analyzed),
+        [] => None,
+    }
+}
+
+// Statistics in a struct, under field 0.
+fn put_statistics_result(writer: &mut WireWriter, stats: &NamedStats) -> Result<(), NoMemory>
+    ensures { Gathers writer.old writer.new result (fields_bytes (Field struct_code (pos 0) (statistics_result stats.now) NoFields)) }
+{
+    writer.field(type_code::STRUCT, 0)?;
+    write_table_stats_result(writer, stats)
 }
 
 // Events with their messages, under field 0.

@@ -13,6 +13,7 @@ mod part_calls;
 mod phases;
 mod records;
 mod replies;
+mod stat_calls;
 mod steps;
 mod table_calls;
 mod texts;

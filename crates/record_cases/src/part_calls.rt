@@ -51,6 +51,9 @@ fn call_in_table(alloc: Global, call: &str, words: &str) -> Result<Call, Unable>
         "get_partitions_ps" | "get_partition_names_ps" => {
             call_by_prefix(alloc, call, db, table, rest)
         }
+        "get_partitions_by_filter" | "get_num_partitions_by_filter" => {
+            call_by_filter(alloc, call, db, table, rest)
+        }
         _ => call_with_records(alloc, call, db, table, rest),
     }
 }
@@ -113,6 +116,29 @@ fn call_by_prefix(
             values,
             max,
         }),
+        _ => Err(Unable::Form),
+    }
+}
+
+// A call for so many partitions for which a filter holds, or for their number.
+fn call_by_filter(
+    alloc: Global,
+    call: &str,
+    db: Text,
+    table: Text,
+    words: &str,
+) -> Result<Call, Unable> {
+    let (max, filter) = words_of(words);
+    let filter = Text::of(alloc, filter)?;
+    let max = count_of(max)?;
+    match call {
+        "get_partitions_by_filter" => Ok(Call::GetPartitionsByFilter {
+            db,
+            table,
+            filter,
+            max,
+        }),
+        "get_num_partitions_by_filter" => Ok(Call::GetNumPartitionsByFilter { db, table, filter }),
         _ => Err(Unable::Form),
     }
 }

@@ -2,9 +2,10 @@
 
 use crate::outcome::words_of;
 use crate::part_calls::part_of;
+use crate::stat_calls::named_stats_of;
 use crate::table_calls::names_of;
 use crate::texts::texts_of;
-use crate::worded::{Worded, owned_by, table_owned_by};
+use crate::worded::{Worded, owned_by, table_owned_by, text_of};
 use cat_types::{
     Answer, Column, Columns, ListOf, MapOf, NamedTable, Params, Parts, Reply, Tables, Text,
 };
@@ -26,6 +27,8 @@ impl Worded for Reply {
             "db" => db_of(alloc, rest),
             "tables" => tables_of(alloc, rest),
             "parts" => parts_of(alloc, rest),
+            "stats" => Ok(Reply::Stats(named_stats_of(alloc, rest)?)),
+            "column_stats" => column_stats_of(alloc, rest),
             "events" => events_of(alloc, rest),
             "refused" => refused_of(alloc, rest),
             _ => Err(Unable::Form),
@@ -94,6 +97,24 @@ fn table_of(alloc: Global, words: &str) -> Result<NamedTable, Unable> {
     let table = Text::of(alloc, table)?;
     let rec = table_owned_by(alloc, owner)?;
     Ok(NamedTable { db, table, rec })
+}
+
+// One column's statistics, by the words `DB TABLE PART COL TYPE KIND`; those of a table name no
+// partition.
+fn column_stats_of(alloc: Global, words: &str) -> Result<Reply, Unable> {
+    let (db, words) = words_of(words);
+    let (table, words) = words_of(words);
+    let (part, stats) = words_of(words);
+    let db = Text::of(alloc, db)?;
+    let table = Text::of(alloc, table)?;
+    let part = text_of(alloc, part)?;
+    let stats = named_stats_of(alloc, stats)?;
+    Ok(Reply::ColumnStats {
+        db,
+        table,
+        part,
+        stats,
+    })
 }
 
 // Events, by the digits of their bytes.

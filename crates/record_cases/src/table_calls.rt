@@ -1,7 +1,7 @@
 //! Calls on tables in words.
 
 use crate::outcome::words_of;
-use crate::part_calls::part_call_of;
+use crate::stat_calls::stat_call_of;
 use crate::texts::texts_of;
 use crate::worded::{table_owned_by, text_of};
 use cat_types::{Call, TableArg, Text};
@@ -23,7 +23,7 @@ pub fn table_call_of(alloc: Global, call: &str, words: &str) -> Result<Call, Una
         "drop_table" | "get_tables" | "get_table" | "get_fields" | "get_schema" => {
             call_by_names(alloc, call, words)
         }
-        _ => part_call_of(alloc, call, words),
+        _ => stat_call_of(alloc, call, words),
     }
 }
 

@@ -1,0 +1,9 @@
+pub mod Doubles
+pub mod Flags
+pub mod Longs
+pub mod Strings
+pub mod Members
+pub mod Objects
+pub mod Descs
+pub mod Statistics
+pub mod Requests
