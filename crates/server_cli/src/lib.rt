@@ -1,0 +1,7 @@
+//! The top call of a server: it reads the words of `serve`, opens the store that the disks hold, and
+//! serves connections at it by workers in threads.
+#![tactic(auto)]
+
+mod words;
+
+pub use words::{Serving, read_serving};
