@@ -1,6 +1,6 @@
 //! What the words of `serve` ask.
 
-ghost use Rattle.std.specs.Prelude.{◌≡◌, ◌∷◌, [], List, None, Some, IfSome, MatchOption, map, string_bytes, ℕ};
+ghost use Rattle.std.specs.Prelude.{◌≡◌, ◌∷◌, [], List, Option, None, Some, IfSome, MatchOption, map, string_bytes, ℕ};
 ghost use Rattle.server_cli.specs.Words.{Asks, AsksSessions, IsNumber};
 ghost use Rattle.server_cli.specs.declared.words.Serving.{Serving};
 
@@ -25,69 +25,67 @@ pub fn read_serving(words: &[String]) -> Option<Serving>
     ensures none { result ≡ None → (s : Serving) → Asks (map string_bytes words.now) s → ⊥ }
 {
     match words {
-        [command, port_name, port, workers_name, workers] => begun(
-            command.as_str(),
-            port_name.as_str(),
-            port.as_str(),
-            workers_name.as_str(),
-            workers.as_str(),
-        ),
-        [
-            command,
-            port_name,
-            port,
-            workers_name,
-            workers,
-            sessions_name,
-            sessions,
-        ] => with_sessions(
-            begun(
+        [command, port_name, port, workers_name, workers, more @ ..] => {
+            let (port, workers) = read_numbers(
                 command.as_str(),
                 port_name.as_str(),
                 port.as_str(),
                 workers_name.as_str(),
                 workers.as_str(),
-            )?,
-            sessions_name.as_str(),
-            sessions.as_str(),
-        ),
+            )?;
+            let sessions = read_sessions(more)?;
+            Some(Serving {
+                port,
+                workers,
+                sessions,
+            })
+        }
         _ => None,
     }
 }
 
-// Reads the words up to those of the sessions.
-fn begun(
+// Reads the words up to those of the sessions: the port, and how many workers.
+fn read_numbers(
     command: &str,
     port_name: &str,
     port: &str,
     workers_name: &str,
     workers: &str,
-) -> Option<Serving>
-    ensures asked { IfSome result (λ s. Asks (command.now ∷ port_name.now ∷ port.now ∷ workers_name.now ∷ workers.now ∷ []) s) }
+) -> Option<(u16, u32)>
+    ensures asked { IfSome result (λ n. (more : List (List ℕ)) (sessions : Option ℕ) → AsksSessions more sessions → Asks (command.now ∷ port_name.now ∷ port.now ∷ workers_name.now ∷ workers.now ∷ more) (record { port = n.0; workers = n.1; sessions = sessions })) }
     ensures none { result ≡ None → (s : Serving) (more : List (List ℕ)) → Asks (command.now ∷ port_name.now ∷ port.now ∷ workers_name.now ∷ workers.now ∷ more) s → ⊥ }
 {
     if command != "serve" || port_name != "--port" || workers_name != "--workers" {
         return None;
     }
-    Some(Serving {
-        port: read_number(port, 1, 65_535)? as u16,
-        workers: read_number(workers, 1, 64)? as u32,
-        sessions: None,
-    })
+    Some((
+        read_number(port, 1, 65_535)? as u16,
+        read_number(workers, 1, 64)? as u32,
+    ))
 }
 
-// Adds what the words of the sessions ask to what those before them do.
-fn with_sessions(before: Serving, name: &str, sessions: &str) -> Option<Serving>
-    ensures { MatchOption result ((k : ℕ) → AsksSessions (name.now ∷ sessions.now ∷ []) (Some k) → ⊥) (λ s. (s.port ≡ before.port) × (s.workers ≡ before.workers) × AsksSessions (name.now ∷ sessions.now ∷ []) s.sessions) }
+// Reads the words behind the workers.
+fn read_sessions(words: &[String]) -> Option<Option<u64>>
+    ensures { MatchOption result ((sessions : Option ℕ) → AsksSessions (map string_bytes words.now) sessions → ⊥) (λ sessions. AsksSessions (map string_bytes words.now) sessions) }
+{
+    match words {
+        [] => Some(None),
+        [name, sessions] => match count_of(name.as_str(), sessions.as_str()) {
+            Some(count) => Some(Some(count)),
+            None => None,
+        },
+        _ => None,
+    }
+}
+
+// Reads how many sessions a worker serves.
+fn count_of(name: &str, sessions: &str) -> Option<u64>
+    ensures { MatchOption result ((n : ℕ) → AsksSessions (name.now ∷ sessions.now ∷ []) (Some n) → ⊥) (λ n. AsksSessions (name.now ∷ sessions.now ∷ []) (Some n)) }
 {
     if name != "--sessions" {
         return None;
     }
-    Some(Serving {
-        port: before.port,
-        workers: before.workers,
-        sessions: Some(read_number(sessions, 1, MOST_SESSIONS)?),
-    })
+    read_number(sessions, 1, MOST_SESSIONS)
 }
 
 // Reads a number from `low` to `high`.
