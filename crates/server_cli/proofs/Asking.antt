@@ -1,6 +1,7 @@
 -- What words that ask something are.
-use Rattle.std.proofs.Common.{◌≡◌, ℕ, ◌≤◌, length, List, [], ◌∷◌, Option, Some, None, map, String, Global, string_bytes, slice_index_or, take, drop, ◌-◌, refl, sym, ap, subst, ◌∙◌, arith}
+use Rattle.std.proofs.Common.{◌≡◌, ℕ, Bool, true, false, MatchBool, codes, ◌≤◌, length, List, [], ◌∷◌, Option, Some, None, map, String, Global, string_bytes, slice_index_or, take, drop, ◌-◌, refl, sym, ap, subst, ◌∙◌, arith}
 use Rattle.std.proofs.lemmas.List.{take_rest}
+use Rattle.server_cli.specs.Plans.{BeginsServe}
 use Rattle.server_cli.specs.Words.{Asks, AsksSessions, IsNumber}
 use Rattle.server_cli.specs.declared.words.Serving.{Serving}
 
@@ -36,3 +37,13 @@ five_words (x ∷ y ∷ []) a b c d e five is_a is_b is_c is_d is_e = absurd (om
 five_words (x ∷ y ∷ z ∷ []) a b c d e five is_a is_b is_c is_d is_e = absurd (omega (arith, five))
 five_words (x ∷ y ∷ z ∷ u ∷ []) a b c d e five is_a is_b is_c is_d is_e = absurd (omega (arith, five))
 five_words (x ∷ y ∷ z ∷ u ∷ v ∷ ws) a b c d e five is_a is_b is_c is_d is_e = rw (is_a, is_b, is_c, is_d, is_e, take_rest (x ∷ y ∷ z ∷ u ∷ v ∷ ws) 5) refl
+
+-- the first word
+pub first_word : (ws : List (String Global)) (a : String Global) → 1 ≤ length ws → a ≡ slice_index_or ws 0 a → map string_bytes ws ≡ string_bytes a ∷ map string_bytes (drop 1 ws)
+first_word [] a one is_a = absurd (omega (arith, one))
+first_word (x ∷ ws) a one is_a = rw is_a refl
+
+-- whether the first word is `serve`, by the test of that word
+pub begins : (ws : List (List ℕ)) (a : List ℕ) (more : List (List ℕ)) (b : Bool) → ws ≡ a ∷ more → MatchBool b (a ≡ codes "serve") (a ≡ codes "serve" → ⊥) → MatchBool b (BeginsServe ws) (BeginsServe ws → ⊥)
+begins ws a more true same is = (more, same ∙ ap (λ x. x ∷ more) is)
+begins ws a more false same is = λ (rest, serve). is (ap (λ xs. slice_index_or xs 0 []) (sym same ∙ serve))

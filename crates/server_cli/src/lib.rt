@@ -2,6 +2,10 @@
 //! serves connections at it by workers in threads.
 #![tactic(auto)]
 
+mod planning;
+mod top_call;
 mod words;
 
+pub use planning::plan;
+pub use top_call::Plan;
 pub use words::{Serving, read_serving};
