@@ -61,6 +61,12 @@ posts_of (l ∷ ls) [] ks = []
 posts_of (l ∷ ls) (f ∷ fs) [] = []
 posts_of (l ∷ ls) (f ∷ fs) (k ∷ ks) = record { listener = l; folder = f; clock = k } ∷ posts_of ls fs ks
 
+-- these are the posts of workers that are given this, one of each for each worker
+pub record ArePosts {L F K : Type 0} (given : Given L F K) (posts : List (Post L F K)) : Type 0 where
+  pub folders : length given.folders ≡ length given.listeners
+  pub clocks : length given.clocks ≡ length given.listeners
+  pub are : posts ≡ posts_of given.listeners given.folders given.clocks
+
 -- the first of these ends that isn't 0, or 0 where all are
 abbrev pub first_fault : List ℕ → ℕ
 first_fault [] = 0
@@ -74,13 +80,6 @@ pub record Closed (start : Start) (log : List Entry) (new : Disks) : Type 0 wher
   pub none_above : NoneAbove (fault_of new) log
   pub since : KeptSince (point_of start) log start.past new.a.past new.a.lies
   pub held : IfSome new.a.lies (λ d. Kept (point_after (point_of start) (map took log)) d.held)
-
--- The store was opened, and closed behind these entries: it began with what disk A opened to, and with a fault number at least that of the disks before; a disk that was kept for a history goes on so.
-pub record Opened (start : Start) (log : List Entry) (old new : Disks) : Type 0 where
-  pub opens : IfSome old.a.lies (λ d. Opens d.held start.state)
-  pub later : fault_of old ≤ start.fault
-  pub closed : Closed start log new
-  pub kept : (p : Point) → IsKept p old.a.lies → GoesOn p start log old.a new.a
 
 -- The store wasn't opened, for this cause: the bytes show it, or disk A counted a fault, or memory was refused; one that was kept for a history is refused by an outage alone, and stays kept; disk B is as it was.
 pub record Unopened (fault : OpenFault) (old new : Disks) : Type 0 where
@@ -120,13 +119,20 @@ pub record Unmanned {L F K : Type 0} (log : List Entry) (given : Given L F K) (b
 
 -- ---- the whole
 
--- the store was opened and served, and was closed behind one history, whose length is the number of steps
-pub record Served {L F K : Type 0} (ar : Post L F K → Around) (sessions : Option ℕ) (given : Given L F K) (back : Back L F) (old new : Disks) : Type 0 where
-  pub start : Start
+-- a store that began here was served, and closed behind one history, whose length is the number of steps
+pub record Served {L F K : Type 0} (ar : Post L F K → Around) (sessions : Option ℕ) (start : Start) (given : Given L F K) (back : Back L F) (new : Disks) : Type 0 where
   pub log : List Entry
-  pub opened : Opened start log old new
+  pub closed : Closed start log new
   pub steps : back.steps ≡ length log % 2 ^ 64
   pub workers : Manned ar sessions log given back ⊎ Unmanned log given back
+
+-- The store was opened and served: it began with what disk A opened to, and with a fault number at least that of the disks before; a disk that was kept for a history goes on so.
+pub record Opened {L F K : Type 0} (ar : Post L F K → Around) (sessions : Option ℕ) (given : Given L F K) (back : Back L F) (old new : Disks) : Type 0 where
+  pub start : Start
+  pub opens : IfSome old.a.lies (λ d. Opens d.held start.state)
+  pub later : fault_of old ≤ start.fault
+  pub served : Served ar sessions start given back new
+  pub kept : (p : Point) → IsKept p old.a.lies → GoesOn p start served.log old.a new.a
 
 -- there is no store, for this cause, which the status tells, and no worker began
 pub record NoStore {L F K : Type 0} (given : Given L F K) (back : Back L F) (old new : Disks) : Type 0 where
@@ -145,7 +151,7 @@ pub record Refused {L F K : Type 0} (words : List (List ℕ)) (given : Given L F
 -- what a server did for its words
 abbrev pub Serves : {L F K : Type 0} → (Post L F K → Around) → List (List ℕ) → Given L F K → Back L F → Disks → Disks → Type 0
 Serves ar words given back old new =
-    Refused words given back old new ⊎ ((asked : Serving) × Asks words asked × (Served ar asked.sessions given back old new ⊎ NoStore given back old new))
+    Refused words given back old new ⊎ ((asked : Serving) × Asks words asked × (Opened ar asked.sessions given back old new ⊎ NoStore given back old new))
 
 -- ---- its answers and their causes
 

@@ -2,6 +2,11 @@
 //! serves connections at it by workers in threads.
 #![tactic(auto)]
 
+mod lists;
+mod server;
+mod server_end;
 mod words;
 
+pub use server::run_server;
+pub use server_end::ServerEnd;
 pub use words::{Serving, read_serving};
