@@ -10,4 +10,5 @@ mod words;
 
 pub use laws::{store_faults_are_counted, whole_texts_are_piped};
 pub use local::{LocalEnd, run_local};
+pub use telling::refused_status;
 pub use words::{Command, Usage};
