@@ -6,11 +6,13 @@ mod lists;
 mod planning;
 mod server;
 mod server_end;
+mod telling;
 mod top_call;
 mod words;
 
 pub use planning::plan;
 pub use server::run_server;
 pub use server_end::ServerEnd;
+pub use telling::tell_status;
 pub use top_call::Plan;
 pub use words::{Serving, read_serving};
