@@ -7,7 +7,7 @@ ghost use Rattle.hms_outside.specs.Causes.{Rose};
 ghost use Rattle.ms_journal.specs.Files.{IsForeign};
 ghost use Rattle.ms_server.specs.Visits.{around};
 ghost use Rattle.server_cli.specs.Lists.{HasRoom};
-ghost use Rattle.server_cli.specs.Server.{ArePosts, Closed, EachFaultRose, Given, OneRose, Served, Serves, back_of, both_seen};
+ghost use Rattle.server_cli.specs.Server.{ArePosts, Closed, EachEnd, Given, OneRose, Served, Serves, back_of, both_seen};
 ghost use Rattle.server_cli.specs.Words.{Asks};
 ghost use Rattle.server_cli.specs.declared.words.Serving.{Serving};
 
@@ -70,7 +70,7 @@ where
     ensures disk { result.status ≡ 5 → Rose (D.faults disk_a) (D.faults result.disk_a) }
     ensures store { result.status ≡ 6 → IfSome (D.lies disk_a) (λ d. IsForeign d.held ⊎ ((at : ℕ) × IsBrokenStore at d.held)) }
     ensures listener { result.status ≡ 12 → OneRose L.faults listeners.items result.listeners.items }
-    ensures ends { EachFaultRose L.faults result.ends.items listeners.items result.listeners.items }
+    ensures ends { EachEnd L.faults result.ends.items listeners.items result.listeners.items }
     ensures disk_a { result.status ≡ 2 → result.disk_a ≡ disk_a }
     ensures disk_b { result.status ≡ 2 → result.disk_b ≡ disk_b }
     ensures listeners { vec_len result.listeners ≡ vec_len listeners }
