@@ -1,3 +1,4 @@
 pub mod Words
+pub mod Plans
 pub mod Lists
 pub mod Server

@@ -3,10 +3,14 @@
 #![tactic(auto)]
 
 mod lists;
+mod planning;
 mod server;
 mod server_end;
+mod top_call;
 mod words;
 
+pub use planning::plan;
 pub use server::run_server;
 pub use server_end::ServerEnd;
+pub use top_call::Plan;
 pub use words::{Serving, read_serving};
