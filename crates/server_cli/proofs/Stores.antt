@@ -1,12 +1,13 @@
 -- What is told of a store that was opened, or wasn't.
 use Rattle.std.proofs.Common.{inl, inr, ◌≡◌, ◌≢◌, ◌∙◌, ℕ, ◌≤◌, List, Option, ap, subst, sym, arith}
 use Rattle.std.specs.Prelude.{IfSome}
-use Rattle.desk.specs.History.{Point, Start}
+use Rattle.desk.specs.History.{Entry, NoStoreFault, Point, Start, point_of}
 use Rattle.engine.specs.Keeping.{IsReopened, Kept}
 use Rattle.engine.specs.Opening.{IsBrokenStore, Opens}
 use Rattle.hms_outside.specs.Causes.{Rose}
 use Rattle.hms_outside.specs.Disks.{Lay, Lies, Went}
 use Rattle.ms_cli.specs.Keeping.{Disk}
+use Rattle.ms_cli.proofs.Counting.{did_not_rise, none_told}
 use Rattle.ms_cli.proofs.Keeps.{goes_on_from, held_outage, stays_kept}
 use Rattle.ms_cli.proofs.Refusing.{opening_bytes}
 use Rattle.ms_journal.specs.Faults.{IsOpeningFault, IsOutage}
@@ -16,7 +17,7 @@ use Rattle.ms_journal.specs.declared.fault.OpenFault.{OpenFault}
 use Rattle.ms_journal.specs.declared.fault.OpenFault.TheVariants.{Foreign, Broken, DiskFault}
 use Rattle.ms_server.specs.Visits.{Around}
 use Rattle.ms_server.specs.declared.post.Post.{Post}
-use Rattle.server_cli.specs.Server.{Back, Disks, Given, IsEnd, Opened, Served, Unopened, both_seen, fault_of}
+use Rattle.server_cli.specs.Server.{Back, Closed, Disks, Given, IsEnd, Opened, Served, Unopened, both_seen, fault_of}
 
 -- the store was opened, which left `mid`, and then served
 pub opened : {L F K : Type 0} (ar : Post L F K → Around) (sessions : Option ℕ) (given : Given L F K) (back : Back L F) (old mid new : Disks) (start : Start) → IfSome old.a.lies (λ d. Opens d.held start.state) → start.fault ≡ fault_of mid → old.a.faults ≤ mid.a.faults → mid.b ≡ old.b → start.past ≡ mid.a.past
@@ -51,3 +52,9 @@ pub no_end : (status n : ℕ) → IsEnd status → status ≡ n → n ≢ 0 → 
 no_end status n (inl zero_is) is not_0 not_10 not_12 = not_0 (sym is ∙ zero_is)
 no_end status n (inr (inl ten)) is not_0 not_10 not_12 = not_10 (sym is ∙ ten)
 no_end status n (inr (inr twelve)) is not_0 not_10 not_12 = not_12 (sym is ∙ twelve)
+
+-- where no disk counted a fault, no step was answered by one
+pub none_of_faults : (start : Start) (log : List Entry) (old new : Disks) → fault_of old ≤ start.fault → Closed start log new → (Rose (fault_of old) (fault_of new) → ⊥) → NoStoreFault log
+none_of_faults start log old new later closed quiet =
+    let d = did_not_rise (fault_of old) (fault_of new) quiet in
+    none_told (point_of start) log (fault_of new) closed.legal closed.none_above (omega (arith, d.0, later)) d.1

@@ -2,3 +2,4 @@ pub mod Words
 pub mod Plans
 pub mod Lists
 pub mod Server
+pub mod Laws

@@ -35,9 +35,9 @@ use std::thread::Threads;
 ///
 /// The status is the first of the workers' that isn't 0, or 0. A worker's is 0 where it served K
 /// connections, 12 where its listener failed, and 10 where memory was refused. Where no worker begins,
-/// the status is 2 where the words are no others than these, and then nothing is used; 5 where a disk
-/// failed and so no store was opened; 6 where the disk's bytes refuse that; 10 where memory was
-/// refused. Listeners, folders and disks come back whatever the status.
+/// the status is 2 where the words aren't such, and then nothing is used; 5 where a disk failed and so
+/// no store was opened; 6 where the disk's bytes refuse that; 10 where memory was refused. Listeners,
+/// folders and disks come back whatever the status.
 ///
 /// It may wait for ever, as `serve` without K does.
 pub fn run_server<
