@@ -3,3 +3,4 @@ pub mod Plans
 pub mod Lists
 pub mod Server
 pub mod Telling
+pub mod Laws

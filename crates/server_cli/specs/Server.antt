@@ -155,12 +155,16 @@ Serves ar words given back old new =
 
 -- ---- its answers and their causes
 
--- each worker that ended with 12 has a listener that counted a fault
-abbrev pub EachFaultRose : {L : Type 0} → (L → ℕ) → List ℕ → List L → List L → Type 0
-EachFaultRose faults [] old new = Unit {0}
-EachFaultRose faults (e ∷ es) [] new = ⊥
-EachFaultRose faults (e ∷ es) (l ∷ ls) [] = ⊥
-EachFaultRose faults (e ∷ es) (l ∷ ls) (m ∷ ms) = (e ≡ 12 → Rose (faults l) (faults m)) × EachFaultRose faults es ls ms
+-- a worker's end, or the status that is one: 0, 10 or 12
+abbrev pub IsEnd : ℕ → Type 0
+IsEnd end = (end ≡ 0) ⊎ ((end ≡ 10) ⊎ (end ≡ 12))
+
+-- there is no end, or one for each worker: 0, 10, or, where the listener in its place counted a fault, 12
+abbrev pub EachEnd : {L : Type 0} → (L → ℕ) → List ℕ → List L → List L → Type 0
+EachEnd faults [] old new = Unit {0}
+EachEnd faults (e ∷ es) [] new = ⊥
+EachEnd faults (e ∷ es) (l ∷ ls) [] = ⊥
+EachEnd faults (e ∷ es) (l ∷ ls) (m ∷ ms) = IsEnd e × (e ≡ 12 → Rose (faults l) (faults m)) × EachEnd faults es ls ms
 
 -- one of the listeners counted a fault
 abbrev pub OneRose : {L : Type 0} → (L → ℕ) → List L → List L → Type 0

@@ -2,6 +2,7 @@
 //! serves connections at it by workers in threads.
 #![tactic(auto)]
 
+mod laws;
 mod lists;
 mod planning;
 mod server;
@@ -10,6 +11,7 @@ mod telling;
 mod top_call;
 mod words;
 
+pub use laws::store_faults_are_counted;
 pub use planning::plan;
 pub use server::run_server;
 pub use server_end::ServerEnd;

@@ -7,7 +7,7 @@ ghost use Rattle.hms_outside.specs.Causes.{Rose};
 ghost use Rattle.ms_journal.specs.Files.{IsForeign};
 ghost use Rattle.ms_server.specs.Visits.{around};
 ghost use Rattle.server_cli.specs.Lists.{HasRoom};
-ghost use Rattle.server_cli.specs.Server.{ArePosts, Closed, EachFaultRose, Given, OneRose, Served, Serves, back_of, both_seen};
+ghost use Rattle.server_cli.specs.Server.{ArePosts, Closed, EachEnd, Given, OneRose, Served, Serves, back_of, both_seen};
 ghost use Rattle.server_cli.specs.Words.{Asks};
 ghost use Rattle.server_cli.specs.declared.words.Serving.{Serving};
 
@@ -35,9 +35,9 @@ use std::thread::Threads;
 ///
 /// The status is the first of the workers' that isn't 0, or 0. A worker's is 0 where it served K
 /// connections, 12 where its listener failed, and 10 where memory was refused. Where no worker begins,
-/// the status is 2 where the words are no others than these, and then nothing is used; 5 where a disk
-/// failed and so no store was opened; 6 where the disk's bytes refuse that; 10 where memory was
-/// refused. Listeners, folders and disks come back whatever the status.
+/// the status is 2 where the words aren't such, and then nothing is used; 5 where a disk failed and so
+/// no store was opened; 6 where the disk's bytes refuse that; 10 where memory was refused. Listeners,
+/// folders and disks come back whatever the status.
 ///
 /// It may wait for ever, as `serve` without K does.
 pub fn run_server<
@@ -70,7 +70,7 @@ where
     ensures disk { result.status ≡ 5 → Rose (D.faults disk_a) (D.faults result.disk_a) }
     ensures store { result.status ≡ 6 → IfSome (D.lies disk_a) (λ d. IsForeign d.held ⊎ ((at : ℕ) × IsBrokenStore at d.held)) }
     ensures listener { result.status ≡ 12 → OneRose L.faults listeners.items result.listeners.items }
-    ensures ends { EachFaultRose L.faults result.ends.items listeners.items result.listeners.items }
+    ensures ends { EachEnd L.faults result.ends.items listeners.items result.listeners.items }
     ensures disk_a { result.status ≡ 2 → result.disk_a ≡ disk_a }
     ensures disk_b { result.status ≡ 2 → result.disk_b ≡ disk_b }
     ensures listeners { vec_len result.listeners ≡ vec_len listeners }
