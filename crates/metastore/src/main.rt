@@ -32,7 +32,13 @@ fn main(rt: HostRuntime) -> ExitCode {
             let mut input = StreamSource::new(alloc, rt.stdin());
             let mut output = StreamSink::new(alloc, rt.stdout());
             local(
-                &rt, command, &mut input, &mut output, &mut errors, disk_a, disk_b,
+                &rt,
+                command,
+                &mut input,
+                &mut output,
+                &mut errors,
+                disk_a,
+                disk_b,
             )
         }
         Ok(Plan::Serve { port, workers }) => {

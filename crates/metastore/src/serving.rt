@@ -28,15 +28,7 @@ pub fn serve<
         + Sync,
     E: Sink,
     D: Disk + Send + Drop,
->(
-    rt: &R,
-    words: &[String],
-    port: u16,
-    workers: u32,
-    errors: &mut E,
-    disk_a: D,
-    disk_b: D,
-) -> u8
+>(rt: &R, words: &[String], port: u16, workers: u32, errors: &mut E, disk_a: D, disk_b: D) -> u8
     requires some { 0 < workers }
     requires asked { (asked : Serving) → Asks (map string_bytes words.now) asked → workers ≡ asked.workers }
 {
@@ -55,15 +47,7 @@ pub fn serve<
         disk_b,
         folders: _,
     } = run_server(
-        rt,
-        alloc,
-        words,
-        doors,
-        &FreeGate,
-        disk_a,
-        disk_b,
-        folders,
-        clocks,
+        rt, alloc, words, doors, &FreeGate, disk_a, disk_b, folders, clocks,
     );
     let _ = tell_status(alloc, errors, status, disk_a, disk_b);
     status

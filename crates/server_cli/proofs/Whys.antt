@@ -1,6 +1,6 @@
 -- Why no store was opened.
-use Rattle.std.proofs.Common.{◌≡◌, List, Option, Some, None, ℕ, refl, inl, inr}
-use Rattle.std.specs.Prelude.{◌⊎◌, IfSome, Result, Ok}
+use Rattle.std.proofs.Common.{◌≡◌, Option, Some, None, ℕ, refl, inl, inr}
+use Rattle.std.specs.Prelude.{IfSome, Result, Ok}
 use Rattle.desk.specs.State.{State}
 use Rattle.engine.specs.Opening.{IsBrokenStore, Opens}
 use Rattle.hms_outside.specs.Disks.{Lies}
@@ -12,7 +12,7 @@ use Rattle.ms_journal.specs.Faults.{IsOpeningFault}
 use Rattle.ms_journal.specs.Files.{IsForeign}
 use Rattle.ms_journal.specs.declared.fault.OpenFault.{OpenFault}
 use Rattle.ms_journal.specs.declared.fault.OpenFault.TheVariants.{Foreign, Broken}
-use Rattle.server_cli.specs.Telling.{TellsNone, TellsWhy}
+use Rattle.server_cli.specs.Telling.{TellsWhy}
 
 same_goes : (a : Option Held) → Goes Same a a
 same_goes None = tt

@@ -1,5 +1,5 @@
 -- How a server's status is told.
-use Rattle.std.specs.Prelude.{◌≡◌, ◌⊎◌, ℕ, codes, Option, Result, IfSome, MatchResult}
+use Rattle.std.specs.Prelude.{◌⊎◌, Option, Result, IfSome, MatchResult}
 use Rattle.engine.specs.Opening.{Opens}
 use Rattle.desk.specs.State.{State}
 use Rattle.hms_outside.specs.Disks.{Lies}
