@@ -15,7 +15,7 @@ not_told s before caller after step StoreFault may stays low is = absurd (omega 
 not_told s before caller after step (Reply r) may stays low is = absurd cc
 
 -- where no fault number is above that of the start, none was told
-none_told : (p : Point) (es : List Entry) (n : ℕ) → IsLegal p (map took es) → NoneAbove n es → n ≤ p.fault → n < 2 ^ 64 - 1 → NoStoreFault es
+pub none_told : (p : Point) (es : List Entry) (n : ℕ) → IsLegal p (map took es) → NoneAbove n es → n ≤ p.fault → n < 2 ^ 64 - 1 → NoStoreFault es
 none_told p [] n legal none stays low = tt
 none_told p (e ∷ es) n legal none stays low = (
   not_told p.state p.fault e.0.caller e.1.fault e.0.step e.1.answer legal.0.1 (omega (arith, none.0, stays)) (omega (arith, legal.0.0, none.0, low, stays)),
@@ -23,7 +23,7 @@ none_told p (e ∷ es) n legal none stays low = (
 )
 
 -- a count that didn't rise stays, and is below the last value
-did_not_rise : (before now : ℕ) → (Rose before now → ⊥) → (now ≤ before) × (now < 2 ^ 64 - 1)
+pub did_not_rise : (before now : ℕ) → (Rose before now → ⊥) → (now ≤ before) × (now < 2 ^ 64 - 1)
 did_not_rise before now quiet = (omega (arith, quiet), omega (arith, quiet))
 
 pub counted : (old new : Outside) (status : ℕ) (piped : Piped old new status) → (Rose (fault_of old) (fault_of new) → ⊥) → NoStoreFault piped.entries

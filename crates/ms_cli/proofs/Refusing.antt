@@ -17,7 +17,7 @@ use Rattle.ms_journal.specs.declared.fault.OpenFault.{OpenFault}
 use Rattle.ms_journal.specs.declared.fault.OpenFault.TheVariants.{NotEmpty, Foreign, Broken, DiskFault, NoMemory}
 
 -- the bytes show why they aren't opened
-opening_bytes : (fault : OpenFault) (lies : Option Lies) → IsOpeningFault fault → (fault ≡ Foreign → IfSome lies (λ d. IsForeign d.held)) → ((at : ℕ) → fault ≡ Broken at → IfSome lies (λ d. IsBrokenStore at d.held))
+pub opening_bytes : (fault : OpenFault) (lies : Option Lies) → IsOpeningFault fault → (fault ≡ Foreign → IfSome lies (λ d. IsForeign d.held)) → ((at : ℕ) → fault ≡ Broken at → IfSome lies (λ d. IsBrokenStore at d.held))
     → IfSome lies (λ d. RefusesBytes fault d.held)
 opening_bytes NotEmpty lies kind foreign broken = absurd kind
 opening_bytes Foreign lies kind foreign broken = foreign refl

@@ -10,4 +10,5 @@ mod words;
 
 pub use laws::{store_faults_are_counted, whole_texts_are_piped};
 pub use local::{LocalEnd, run_local};
+pub use telling::{refused_status, tell_line, tell_refusal, tell_usage};
 pub use words::{Command, Usage};

@@ -82,8 +82,8 @@ pub fn tell_usage<E: Sink>(errors: &mut E, usage: Usage) -> Result<(), Outage>
     }
 }
 
-// Writes a line, as far as the sink takes it.
-fn tell_line<E: Sink>(errors: &mut E, line: &str) -> Result<(), Outage>
+/// Writes a line, as far as the sink takes it.
+pub fn tell_line<E: Sink>(errors: &mut E, line: &str) -> Result<(), Outage>
     ensures told { TellsLine line.now result (E.held errors.old) (E.held errors.new) }
     ensures cause { HasCause (E.faults errors.old) (E.faults errors.new) result }
 {

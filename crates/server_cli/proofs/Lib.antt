@@ -1,0 +1,4 @@
+pub mod Asking
+pub mod Whys
+pub mod Stores
+pub mod Workers

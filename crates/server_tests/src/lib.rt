@@ -1,0 +1,7 @@
+//! Tests of the program's server over memory, with workers in threads.
+#![tactic(auto)]
+
+#[cfg(test)]
+mod given;
+#[cfg(test)]
+mod tests;
