@@ -4,12 +4,10 @@ import os, resource, subprocess, sys, tempfile, threading, time
 from contextlib import contextmanager
 from dataclasses import dataclass
 
-from messages import field, make_store, message
+from messages import ALIVE, STATUS, make_store
 
 TOP = os.path.dirname(os.path.dirname(os.path.abspath(__file__)))
 IN_MEMORY = "/dev/shm" if os.path.isdir("/dev/shm") else None  # where a sync costs nothing, if there is such a place
-STATUS = message(b"getStatus")
-ALIVE = bytes.fromhex("80010002") + STATUS[4:-1] + field(8, 0, b"\0\0\0\2") + b"\0"  # the reply to it
 
 
 def argument(place, default):
