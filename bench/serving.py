@@ -1,4 +1,4 @@
-"""The program as a server on this machine, over TCP: what the scripts of bench/ and checks/ share."""
+"""Servers on this machine, over TCP: what the scripts of bench/ and checks/ share."""
 
 import random, socket, subprocess, time
 
@@ -28,12 +28,18 @@ def serve_words(command, port, workers, sessions=None):
     return least if sessions is None else [*least, "--sessions", str(sessions)]
 
 
-class Server:
-    """The program as it serves the store of a command of `make_store`. As a context it is killed at its end."""
+def serve(command, workers, port=None, sessions=None):
+    """Starts the program as the server of the store of a command of `make_store`, on a new port where none is told."""
+    port = port or free_port()
+    return Server(serve_words(command, port, workers, sessions), port)
 
-    def __init__(self, command, workers, port=None, sessions=None):
-        self.port = port or free_port()
-        self.child = subprocess.Popen(serve_words(command, self.port, workers, sessions))
+
+class Server:
+    """A program that these words start, and that listens at this port. As a context it is killed at its end."""
+
+    def __init__(self, words, port):
+        self.port = port
+        self.child = subprocess.Popen(words)
 
     def __enter__(self):
         return self
