@@ -85,6 +85,12 @@ def peak_of(child):
         return 0
 
 
+def processor_of(child):
+    """The seconds of the processor that a program which runs has used."""
+    fields = open(f"/proc/{child.pid}/stat").read().rpartition(")")[2].split()
+    return (int(fields[11]) + int(fields[12])) / os.sysconf("SC_CLK_TCK")
+
+
 def served(command, messages):
     """Pipes messages through the metastore: its status, the size of its replies, seconds, peak memory in KiB."""
     with tempfile.TemporaryFile() as given, tempfile.TemporaryFile() as replies:
