@@ -77,8 +77,11 @@ def asked(connection, messages):
     connection.sendall(b"".join(messages) + STATUS)
     replies = b""
     while not replies.endswith(ALIVE):
-        piece = connection.recv(1 << 20)
+        try:
+            piece = connection.recv(1 << 20)
+        except socket.timeout:
+            raise SystemExit(f"a server answered no more within {PATIENCE} s, behind the replies {replies.hex()}")
         if not piece:
-            raise SystemExit(f"a connection was closed behind the replies {replies.hex()}")
+            raise SystemExit(f"a server hung up behind the replies {replies.hex()}")
         replies += piece
     return replies[: -len(ALIVE)]

@@ -75,7 +75,7 @@ def come_and_go(server, ended):
     while not ended.wait(0.001):
         goes_away(server, LISTING[: chance.randrange(len(LISTING))])
         breaks_off(server, LISTING[: chance.randrange(len(LISTING))])
-        sends_noise(server, chance.choice(FRONTS), chance.randbytes(chance.randrange(1, 5000)))
+        sends_noise(server, chance.choice(FRONTS), chance.randbytes(chance.randrange(1, 2000)))
 
 
 @contextmanager
