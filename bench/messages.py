@@ -78,6 +78,8 @@ def add_partitions(parts):
 
 
 LISTING = message(b"get_all_databases")
+STATUS = message(b"getStatus")
+ALIVE = bytes.fromhex("80010002") + STATUS[4:-1] + field(8, 0, b"\0\0\0\2") + b"\0"  # the reply to it
 MADE = bytes.fromhex("80010002") + message(b"create_database")[4:]  # the reply to the creation of a database
 
 

@@ -4,12 +4,10 @@ import os, resource, subprocess, sys, tempfile, threading, time
 from contextlib import contextmanager
 from dataclasses import dataclass
 
-from messages import field, make_store, message
+from messages import ALIVE, STATUS, make_store
 
 TOP = os.path.dirname(os.path.dirname(os.path.abspath(__file__)))
 IN_MEMORY = "/dev/shm" if os.path.isdir("/dev/shm") else None  # where a sync costs nothing, if there is such a place
-STATUS = message(b"getStatus")
-ALIVE = bytes.fromhex("80010002") + STATUS[4:-1] + field(8, 0, b"\0\0\0\2") + b"\0"  # the reply to it
 
 
 def argument(place, default):
@@ -85,6 +83,12 @@ def peak_of(child):
         return max([0] + [int(line.split()[1]) for line in lines if line.startswith("VmHWM")])
     except OSError:
         return 0
+
+
+def processor_of(child):
+    """The seconds of the processor that a program which runs has used."""
+    fields = open(f"/proc/{child.pid}/stat").read().rpartition(")")[2].split()
+    return (int(fields[11]) + int(fields[12])) / os.sysconf("SC_CLK_TCK")
 
 
 def served(command, messages):
