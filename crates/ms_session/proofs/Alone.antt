@@ -14,7 +14,7 @@ use Rattle.cat_types.specs.declared.arguments.DbArg.{DbArg}
 use Rattle.cat_types.specs.declared.arguments.PartArg.{PartArg}
 use Rattle.cat_types.specs.declared.arguments.TableArg.{TableArg}
 use Rattle.cat_types.specs.declared.calls.Call.{Call}
-use Rattle.cat_types.specs.declared.calls.Call.TheVariants.{AddPartition, AddPartitions, AddPartitionsReq, AlterDatabase, AlterPartition, AlterPartitions, AlterTable, AppendPartition, AppendPartitionByName, CreateDatabase, CreateTable, DropDatabase, DropPartition, DropPartitionByName, DropTable, GetAllDatabases, GetAllTables, GetCurrentNotificationEventId, GetDatabase, GetDatabases, GetFields, GetNextNotification, GetPartition, GetPartitionByName, GetPartitionNames, GetPartitionNamesPs, GetPartitions, GetPartitionsByNames, GetPartitionsPs, GetSchema, GetTable, GetTableObjectsByName, GetTableReq, GetTables, RenamePartition}
+use Rattle.cat_types.specs.declared.calls.Call.TheVariants.{AddPartition, AddPartitions, AddPartitionsReq, AlterDatabase, AlterPartition, AlterPartitions, AlterTable, AppendPartition, AppendPartitionByName, CreateDatabase, CreateTable, DeletePartitionColumnStatistics, DeleteTableColumnStatistics, DropDatabase, DropPartition, DropPartitionByName, DropTable, GetAllDatabases, GetAllTables, GetCurrentNotificationEventId, GetDatabase, GetDatabases, GetFields, GetNextNotification, GetNumPartitionsByFilter, GetPartition, GetPartitionByName, GetPartitionColumnStatistics, GetPartitionNames, GetPartitionNamesPs, GetPartitions, GetPartitionsByFilter, GetPartitionsByNames, GetPartitionsPs, GetSchema, GetTable, GetTableColumnStatistics, GetTableObjectsByName, GetTableReq, GetTableStatisticsReq, GetTables, RenamePartition, UpdatePartitionColumnStatistics, UpdateTableColumnStatistics}
 use Rattle.cat_types.specs.declared.changes.Change.{Change}
 use Rattle.cat_types.specs.declared.changes.EventKind.{EventKind}
 use Rattle.cat_types.specs.declared.changes.EventKind.TheVariants as kind
@@ -116,6 +116,15 @@ lists p e (GetPartitionsByNames db name named) moment due reply has is may told 
 lists p e (AlterPartition db name part) moment due reply has is may told which = tt
 lists p e (AlterPartitions db name parts) moment due reply has is may told which = tt
 lists p e (RenamePartition db name values part) moment due reply has is may told which = tt
+lists p e (GetPartitionsByFilter db name filter max) moment due reply has is may told which = tt
+lists p e (GetNumPartitionsByFilter db name filter) moment due reply has is may told which = tt
+lists p e (UpdateTableColumnStatistics stats) moment due reply has is may told which = tt
+lists p e (UpdatePartitionColumnStatistics stats) moment due reply has is may told which = tt
+lists p e (GetTableColumnStatistics db name col) moment due reply has is may told which = tt
+lists p e (GetPartitionColumnStatistics db name part col) moment due reply has is may told which = tt
+lists p e (DeleteTableColumnStatistics db name col) moment due reply has is may told which = tt
+lists p e (DeletePartitionColumnStatistics db name part col) moment due reply has is may told which = tt
+lists p e (GetTableStatisticsReq db name cols) moment due reply has is may told which = tt
 lists p e (GetNextNotification last max) moment due reply has is may told which = tt
 lists p e GetCurrentNotificationEventId moment due reply has is may told which = tt
 
@@ -325,6 +334,11 @@ leaves s caller (GetPartitionsByNames db name named) moment none has = reads_onl
 leaves s caller (AlterPartition db name part) moment none has = on_tables s (AlterPartition db name part) moment (parts_altered s.catalogue (kept_name (Some db)) (kept_name (Some name)) (part ∷ []) moment) (parts_on kind.AlterPartition s.catalogue (kept_name (Some db)) (kept_name (Some name)) (all_altered (table s.catalogue (kept_name (Some db)) (kept_name (Some name))) (part ∷ []) moment)) has
 leaves s caller (AlterPartitions db name parts) moment none has = on_tables s (AlterPartitions db name parts) moment (parts_altered s.catalogue (kept_name (Some db)) (kept_name (Some name)) parts moment) (parts_on kind.AlterPartition s.catalogue (kept_name (Some db)) (kept_name (Some name)) (all_altered (table s.catalogue (kept_name (Some db)) (kept_name (Some name))) parts moment)) has
 leaves s caller (RenamePartition db name values part) moment none has = changes_so s (RenamePartition db name values part) moment (partition_renamed s.catalogue (kept_name (Some db)) (kept_name (Some name)) values part moment) (λ none. table_keeps (partition_renamed s.catalogue (kept_name (Some db)) (kept_name (Some name)) values part moment) s.catalogue (renaming_on _ _ _ values part moment) has) has
+leaves s caller (GetPartitionsByFilter db name filter max) moment none has = reads_only s (GetPartitionsByFilter db name filter max) moment has
+leaves s caller (GetNumPartitionsByFilter db name filter) moment none has = reads_only s (GetNumPartitionsByFilter db name filter) moment has
+leaves s caller (GetTableColumnStatistics db name col) moment none has = reads_only s (GetTableColumnStatistics db name col) moment has
+leaves s caller (GetPartitionColumnStatistics db name part col) moment none has = reads_only s (GetPartitionColumnStatistics db name part col) moment has
+leaves s caller (GetTableStatisticsReq db name cols) moment none has = reads_only s (GetTableStatisticsReq db name cols) moment has
 leaves s caller (GetNextNotification last max) moment none has = reads_only s (GetNextNotification last max) moment has
 leaves s caller GetCurrentNotificationEventId moment none has = reads_only s GetCurrentNotificationEventId moment has
 

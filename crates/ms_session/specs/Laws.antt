@@ -2,7 +2,7 @@
 use Rattle.std.specs.Prelude.{◌≡◌, ⊤, ℕ, ◌⊎◌, List, [], ◌∷◌, ◌++◌, codes, map, Option, Some}
 use Rattle.std.specs.List.{AllByRecursion}
 use Rattle.hms_outside.specs.Told.{Goes}
-use Rattle.cat_types.specs.declared.calls.Call.TheVariants.{AddPartition, AddPartitions, AddPartitionsReq, AlterDatabase, AlterPartition, AlterPartitions, AlterTable, AppendPartition, AppendPartitionByName, CreateDatabase, CreateTable, DropDatabase, DropPartition, DropPartitionByName, DropTable, GetAllDatabases, GetAllTables, GetCurrentNotificationEventId, GetDatabase, GetDatabases, GetFields, GetNextNotification, GetPartition, GetPartitionByName, GetPartitionNames, GetPartitionNamesPs, GetPartitions, GetPartitionsByNames, GetPartitionsPs, GetSchema, GetTable, GetTableObjectsByName, GetTableReq, GetTables, RenamePartition}
+use Rattle.cat_types.specs.declared.calls.Call.TheVariants.{AddPartition, AddPartitions, AddPartitionsReq, AlterDatabase, AlterPartition, AlterPartitions, AlterTable, AppendPartition, AppendPartitionByName, CreateDatabase, CreateTable, DeletePartitionColumnStatistics, DeleteTableColumnStatistics, DropDatabase, DropPartition, DropPartitionByName, DropTable, GetAllDatabases, GetAllTables, GetCurrentNotificationEventId, GetDatabase, GetDatabases, GetFields, GetNextNotification, GetNumPartitionsByFilter, GetPartition, GetPartitionByName, GetPartitionColumnStatistics, GetPartitionNames, GetPartitionNamesPs, GetPartitions, GetPartitionsByFilter, GetPartitionsByNames, GetPartitionsPs, GetSchema, GetTable, GetTableColumnStatistics, GetTableObjectsByName, GetTableReq, GetTableStatisticsReq, GetTables, RenamePartition, UpdatePartitionColumnStatistics, UpdateTableColumnStatistics}
 use Rattle.cat_types.specs.declared.replies.Reply.{Reply}
 use Rattle.cat_types.specs.declared.replies.Reply.TheVariants.{Names}
 use Rattle.table_rules.specs.Databases.{matching}
@@ -82,6 +82,15 @@ MakesNone (ask.Client (GetPartitionsByNames db name named)) = ⊤
 MakesNone (ask.Client (AlterPartition db name part)) = ⊤
 MakesNone (ask.Client (AlterPartitions db name parts)) = ⊤
 MakesNone (ask.Client (RenamePartition db name values part)) = ⊤
+MakesNone (ask.Client (GetPartitionsByFilter db name filter max)) = ⊤
+MakesNone (ask.Client (GetNumPartitionsByFilter db name filter)) = ⊤
+MakesNone (ask.Client (UpdateTableColumnStatistics stats)) = ⊤
+MakesNone (ask.Client (UpdatePartitionColumnStatistics stats)) = ⊤
+MakesNone (ask.Client (GetTableColumnStatistics db name col)) = ⊤
+MakesNone (ask.Client (GetPartitionColumnStatistics db name part col)) = ⊤
+MakesNone (ask.Client (DeleteTableColumnStatistics db name col)) = ⊤
+MakesNone (ask.Client (DeletePartitionColumnStatistics db name part col)) = ⊤
+MakesNone (ask.Client (GetTableStatisticsReq db name cols)) = ⊤
 MakesNone (ask.Client (GetNextNotification last max)) = ⊤
 MakesNone (ask.Client GetCurrentNotificationEventId) = ⊤
 MakesNone (ask.Plain reply) = ⊤
@@ -124,6 +133,15 @@ Lists names (ask.Client (GetPartitionsByNames db name named)) reply = ⊤
 Lists names (ask.Client (AlterPartition db name part)) reply = ⊤
 Lists names (ask.Client (AlterPartitions db name parts)) reply = ⊤
 Lists names (ask.Client (RenamePartition db name values part)) reply = ⊤
+Lists names (ask.Client (GetPartitionsByFilter db name filter max)) reply = ⊤
+Lists names (ask.Client (GetNumPartitionsByFilter db name filter)) reply = ⊤
+Lists names (ask.Client (UpdateTableColumnStatistics stats)) reply = ⊤
+Lists names (ask.Client (UpdatePartitionColumnStatistics stats)) reply = ⊤
+Lists names (ask.Client (GetTableColumnStatistics db name col)) reply = ⊤
+Lists names (ask.Client (GetPartitionColumnStatistics db name part col)) reply = ⊤
+Lists names (ask.Client (DeleteTableColumnStatistics db name col)) reply = ⊤
+Lists names (ask.Client (DeletePartitionColumnStatistics db name part col)) reply = ⊤
+Lists names (ask.Client (GetTableStatisticsReq db name cols)) reply = ⊤
 Lists names (ask.Client (GetNextNotification last max)) reply = ⊤
 Lists names (ask.Client GetCurrentNotificationEventId) reply = ⊤
 Lists names (ask.Plain answer) reply = ⊤
