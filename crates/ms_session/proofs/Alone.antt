@@ -12,6 +12,8 @@ use Rattle.std.specs.Ordering.{nat_cmp}
 use Rattle.std.specs.Str.{bytes_eq}
 use Rattle.cat_types.specs.declared.arguments.DbArg.{DbArg}
 use Rattle.cat_types.specs.declared.arguments.PartArg.{PartArg}
+use Rattle.cat_types.specs.declared.arguments.StatArg.{StatArg}
+use Rattle.cat_types.specs.declared.arguments.StatsArg.{StatsArg}
 use Rattle.cat_types.specs.declared.arguments.TableArg.{TableArg}
 use Rattle.cat_types.specs.declared.calls.Call.{Call}
 use Rattle.cat_types.specs.declared.calls.Call.TheVariants.{AddPartition, AddPartitions, AddPartitionsReq, AlterDatabase, AlterPartition, AlterPartitions, AlterTable, AppendPartition, AppendPartitionByName, CreateDatabase, CreateTable, DeletePartitionColumnStatistics, DeleteTableColumnStatistics, DropDatabase, DropPartition, DropPartitionByName, DropTable, GetAllDatabases, GetAllTables, GetCurrentNotificationEventId, GetDatabase, GetDatabases, GetFields, GetNextNotification, GetNumPartitionsByFilter, GetPartition, GetPartitionByName, GetPartitionColumnStatistics, GetPartitionNames, GetPartitionNamesPs, GetPartitions, GetPartitionsByFilter, GetPartitionsByNames, GetPartitionsPs, GetSchema, GetTable, GetTableColumnStatistics, GetTableObjectsByName, GetTableReq, GetTableStatisticsReq, GetTables, RenamePartition, UpdatePartitionColumnStatistics, UpdateTableColumnStatistics}
@@ -38,6 +40,8 @@ use Rattle.part_rules.specs.PartChanges.{all_altered, appended, list_added, list
 use Rattle.rulings.specs.Changes.{part_change, table_born}
 use Rattle.rulings.specs.Meant.{by_name, by_values, meant_values}
 use Rattle.catalogue.specs.Rules.{breaks, first_refusal, lacks_number, refusal, result_of, rules_of}
+use Rattle.stat_rules.specs.Records.{StatMap}
+use Rattle.stat_rules.specs.Statistics.{part_deleted, part_given, part_updated, said_db, said_part, said_table, said_text, said_at, table_deleted, table_given, table_updated, part_changed, table_changed, unless_empty}
 use Rattle.table_rules.specs.Tables.{renames, table_altered, table_created, table_dropped, table_put}
 use Rattle.rulings.specs.declared.bars.Bars.{Bars}
 use Rattle.cat_objects.specs.declared.held.HeldDb.{HeldDb}
@@ -299,6 +303,26 @@ renaming_on : (o : Option PartRec) (name : List ℕ) (born : ℕ) (values : List
 renaming_on None name born values new moment = tt
 renaming_on (Some old) name born values new moment = either_on (revalues values new) _ _ (tt, tt) (tt, tt)
 
+-- ---- changes of statistics
+
+table_given_on : (o : Option HeldTable) (name : List ℕ) (f : StatMap → StatMap) → AllByRecursion IsOnTables (table_given o name f)
+table_given_on None name f = tt
+table_given_on (Some held) name f = (tt, tt)
+
+part_given_on : (o : Option PartRec) (name : List ℕ) (born : ℕ) (values : List (List ℕ)) (f : StatMap → StatMap) → AllByRecursion IsOnTables (part_given o name born values f)
+part_given_on None name born values f = tt
+part_given_on (Some rec) name born values f = (tt, tt)
+
+unless_on : (objects : List StatArg) (made c : Change) → AllByRecursion IsOnTables made.ops → unless_empty objects made ≡ Some c → AllByRecursion IsOnTables c.ops
+unless_on [] made c on is = absurd cc
+unless_on (object ∷ objects) made c on is = let e : made ≡ c = cc in subst (λ (x : Change). AllByRecursion IsOnTables x.ops) e on
+
+table_updated_on : (cat : Catalogue) (new : StatsArg) (moment : ℕ) (c : Change) → table_updated cat new moment ≡ Some c → AllByRecursion IsOnTables c.ops
+table_updated_on cat new moment c is = unless_on new.objects _ c (table_given_on (table cat (kept_name (said_db new.desc)) (kept_name (said_table new.desc))) (kept_name (said_table new.desc)) _) is
+
+part_updated_on : (cat : Catalogue) (new : StatsArg) (moment : ℕ) (c : Change) → part_updated cat new moment ≡ Some c → AllByRecursion IsOnTables c.ops
+part_updated_on cat new moment c is = unless_on new.objects _ c (part_given_on _ (kept_name (said_table new.desc)) _ _ _) is
+
 -- a call that makes no database leaves `default` alone
 leaves : (s : State) (caller : ℕ) (call : Call) (moment : ℕ) → MakesNone (ask.Client call) → HasDefault s.catalogue → HasDefault (due_in s caller (step.Client call moment)).state.catalogue
 leaves s caller GetAllDatabases moment none has = reads_only s GetAllDatabases moment has
@@ -339,6 +363,10 @@ leaves s caller (GetNumPartitionsByFilter db name filter) moment none has = read
 leaves s caller (GetTableColumnStatistics db name col) moment none has = reads_only s (GetTableColumnStatistics db name col) moment has
 leaves s caller (GetPartitionColumnStatistics db name part col) moment none has = reads_only s (GetPartitionColumnStatistics db name part col) moment has
 leaves s caller (GetTableStatisticsReq db name cols) moment none has = reads_only s (GetTableStatisticsReq db name cols) moment has
+leaves s caller (UpdateTableColumnStatistics new) moment none has = on_tables s (UpdateTableColumnStatistics new) moment (table_updated s.catalogue new moment) (table_updated_on s.catalogue new moment) has
+leaves s caller (UpdatePartitionColumnStatistics new) moment none has = on_tables s (UpdatePartitionColumnStatistics new) moment (part_updated s.catalogue new moment) (part_updated_on s.catalogue new moment) has
+leaves s caller (DeleteTableColumnStatistics db name col) moment none has = changes_so s (DeleteTableColumnStatistics db name col) moment (table_deleted s.catalogue (kept_name (Some db)) (kept_name (Some name)) col) (λ none. table_keeps (table_deleted s.catalogue (kept_name (Some db)) (kept_name (Some name)) col) s.catalogue (table_given_on _ _ _) has) has
+leaves s caller (DeletePartitionColumnStatistics db name part col) moment none has = changes_so s (DeletePartitionColumnStatistics db name part col) moment (part_deleted s.catalogue (kept_name (Some db)) (kept_name (Some name)) part col) (λ none. table_keeps (part_deleted s.catalogue (kept_name (Some db)) (kept_name (Some name)) part col) s.catalogue (part_given_on _ _ _ _ _) has) has
 leaves s caller (GetNextNotification last max) moment none has = reads_only s (GetNextNotification last max) moment has
 leaves s caller GetCurrentNotificationEventId moment none has = reads_only s GetCurrentNotificationEventId moment has
 

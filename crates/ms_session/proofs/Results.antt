@@ -1,8 +1,9 @@
 -- What a store answers to a call is a reply that the call can have.
-use Rattle.std.proofs.Common.{◌≡◌, ◌&&◌, ℕ, Bool, true, false, not, nat_lt, List, [], ◌∷◌, ◌++◌, map, Option, Some, None, is_some, IsSome, IfOk, Result, Ok, Err, ℤ, inl, inr, refl, sym, ap, subst}
+use Rattle.std.proofs.Common.{◌≡◌, ◌≢◌, ◌⊎◌, ◌&&◌, ℕ, Bool, true, false, not, nat_lt, List, [], ◌∷◌, ◌++◌, map, Option, Some, None, is_some, IsSome, IfOk, Result, Ok, Err, ℤ, inl, inr, refl, sym, ap, subst}
 use Rattle.std.proofs.lemmas.Bool.{false≢true}
 use Rattle.std.specs.Prelude.{◌+◌, cond, if◌then◌else◌}
 use Rattle.cat_values.specs.declared.records.PartRec.{PartRec}
+use Rattle.cat_values.specs.declared.storage.Column.{Column}
 use Rattle.cat_types.specs.declared.arguments.PartArg.{PartArg}
 use Rattle.cat_types.specs.declared.calls.Call.{Call}
 use Rattle.cat_types.specs.declared.calls.Call.TheVariants.{AddPartition, AddPartitions, AddPartitionsReq, AlterDatabase, AlterPartition, AlterPartitions, AlterTable, AppendPartition, AppendPartitionByName, CreateDatabase, CreateTable, DeletePartitionColumnStatistics, DeleteTableColumnStatistics, DropDatabase, DropPartition, DropPartitionByName, DropTable, GetAllDatabases, GetAllTables, GetCurrentNotificationEventId, GetDatabase, GetDatabases, GetFields, GetNextNotification, GetNumPartitionsByFilter, GetPartition, GetPartitionByName, GetPartitionColumnStatistics, GetPartitionNames, GetPartitionNamesPs, GetPartitions, GetPartitionsByFilter, GetPartitionsByNames, GetPartitionsPs, GetSchema, GetTable, GetTableColumnStatistics, GetTableObjectsByName, GetTableReq, GetTableStatisticsReq, GetTables, RenamePartition, UpdatePartitionColumnStatistics, UpdateTableColumnStatistics}
@@ -27,14 +28,21 @@ use Rattle.rulings.specs.Changes.{may_have}
 use Rattle.rulings.specs.Meant.{Meaning, by_name, by_values, holds_meant, may_mean, meant_values, stored_values, table_keys}
 use Rattle.rulings.specs.Listed.{all_named}
 use Rattle.part_rules.specs.Partitions.{part_as}
+use Rattle.filter_expr.specs.Reading.{IsFault, Reads}
+use Rattle.filter_expr.specs.Trees.{Any}
+use Rattle.filter_expr.specs.declared.expr.Comparison.{Comparison}
+use Rattle.filter_expr.specs.declared.fault.FilterFault.{FilterFault}
+use Rattle.filter_expr.specs.declared.fault.FilterFault.TheVariants as fault
+use Rattle.filter_expr.proofs.Descending.{read_or_refused}
+use Rattle.filter_rules.specs.Filters.{by_filter_rules, filter_of, read_rules, refusal_by, taken_for}
 use Rattle.catalogue.specs.Polls.{poll_of}
-use Rattle.rulings.specs.Refusals.{refusal_reply}
+use Rattle.rulings.specs.Refusals.{refusal_reply, refusal_text}
 use Rattle.catalogue.specs.Rules.{breaks, change, first_refusal, lacks_number, result_of, rules_of}
 use Rattle.table_rules.specs.Tables.{columns_as, get_table_req_rules, requested_table, schema_as, table_as}
 use Rattle.rulings.specs.declared.bars.Bars.{Bars}
 use Rattle.catalogue.specs.declared.poll.Poll.{Poll}
 use Rattle.rulings.specs.declared.refusal.Refusal.{Refusal}
-use Rattle.rulings.specs.declared.refusal.Refusal.TheVariants.{AlreadyExists, EventNumbersUsedUp, InvalidObject, InvalidOperation, InvalidRequest, IsReplica, NoSuchObject}
+use Rattle.rulings.specs.declared.refusal.Refusal.TheVariants.{AlreadyExists, EventNumbersUsedUp, FilterSyntax, FilterTooDeep, FilterUnknownKey, FilterWrongType, InvalidObject, InvalidOperation, InvalidRequest, IsReplica, NoSuchObject}
 use Rattle.desk.specs.History.{Entry, IsLegal, Legal, MayFollow, Point, Start, next, point_of, took}
 use Rattle.desk.specs.State.{MayAnswer, State, bars_of, decision_of, reply_by, reply_in as due_reply}
 use Rattle.ms_calls.specs.declared.method.Method.{Method}
@@ -230,6 +238,30 @@ tells_many : (cat : Catalogue) (bars : Bars) (parts : List PartArg) → tells_al
 tells_many cat bars [] = refl
 tells_many cat bars (first ∷ more) = tells_added method.AddPartitions true false (table cat (kept_name first.db) (kept_name first.table)) (kept_name first.db) (kept_name first.table) [] (first ∷ more) refl refl
 
+-- ---- rules of filters
+
+-- a call that can be answered each refusal with number 6
+abbrev TellsFilters : Method → Type 0
+TellsFilters m = (text : List ℕ) → IsSome (fields_of_reply (Some m) (Refused 6 text))
+
+-- so can one whose filter has a fault
+tells_fault : (m : Method) (f : FilterFault) (due : f ≢ fault.NoMemory) → TellsFilters m → tells m (refusal_by f due) ≡ true
+tells_fault m (fault.Syntax place) due six = six (refusal_text (FilterSyntax place))
+tells_fault m fault.TooDeep due six = six (refusal_text FilterTooDeep)
+tells_fault m (fault.UnknownKey key) due six = six (refusal_text (FilterUnknownKey key))
+tells_fault m (fault.WrongType key) due six = six (refusal_text (FilterWrongType key))
+tells_fault m fault.NoMemory due six = absurd (due refl)
+
+tells_read : (m : Method) (text : List ℕ) (keys : List Column) (either : ((tree : Option (Any Comparison)) × Reads text keys tree) ⊎ ((f : FilterFault) × (f ≢ fault.NoMemory) × IsFault text keys f)) → TellsFilters m
+    → tells_all m (read_rules (taken_for text keys either)) ≡ true
+tells_read m text keys (inl read) six = refl
+tells_read m text keys (inr refused) six = λ i. tells_fault m refused.0 refused.1 six i && true
+
+-- and so can a call that asks by a filter, whatever the filter is
+tells_filtered : (m : Method) (cat : Catalogue) (db name text : List ℕ) → tells m NoSuchObject ≡ true → TellsFilters m → tells_all m (by_filter_rules cat db name text) ≡ true
+unfolding filter_of
+tells_filtered m cat db name text absent six = λ i. absent i && tells_read m text (table_keys (table cat db name)) (read_or_refused text (table_keys (table cat db name))) six i
+
 -- ---- calls
 
 -- what a message with this method can be answered: a fault of the store, and what is due to the call
@@ -290,6 +322,15 @@ by_method s (AlterPartition db name part) moment m (inl is) = named s (AlterPart
 by_method s (AlterPartition db name part) moment m (inr is) = named s (AlterPartition db name part) moment method.AlterPartitionWithEnvironmentContext m is (by_rules s (AlterPartition db name part) moment method.AlterPartitionWithEnvironmentContext refl refl (refl) refl (λ none. refl))
 by_method s (AlterPartitions db name parts) moment m is = named s (AlterPartitions db name parts) moment method.AlterPartitions m is (by_rules s (AlterPartitions db name parts) moment method.AlterPartitions refl refl (tells_altered method.AlterPartitions (table s.catalogue (kept_name (Some db)) (kept_name (Some name))) [] parts refl) refl (λ none. refl))
 by_method s (RenamePartition db name values part) moment m is = named s (RenamePartition db name values part) moment method.RenamePartition m is (by_rules s (RenamePartition db name values part) moment method.RenamePartition refl refl (refl) refl (λ none. refl))
+by_method s (GetPartitionsByFilter db name filter max) moment m is = named s (GetPartitionsByFilter db name filter max) moment method.GetPartitionsByFilter m is (by_rules s (GetPartitionsByFilter db name filter max) moment method.GetPartitionsByFilter refl refl (tells_filtered method.GetPartitionsByFilter s.catalogue (kept_name (Some db)) (kept_name (Some name)) filter refl (λ text. refl)) refl (λ none. refl))
+by_method s (GetNumPartitionsByFilter db name filter) moment m is = named s (GetNumPartitionsByFilter db name filter) moment method.GetNumPartitionsByFilter m is (by_rules s (GetNumPartitionsByFilter db name filter) moment method.GetNumPartitionsByFilter refl refl (tells_filtered method.GetNumPartitionsByFilter s.catalogue (kept_name (Some db)) (kept_name (Some name)) filter refl (λ text. refl)) refl (λ none. refl))
+by_method s (UpdateTableColumnStatistics new) moment m is = named s (UpdateTableColumnStatistics new) moment method.UpdateTableColumnStatistics m is (by_rules s (UpdateTableColumnStatistics new) moment method.UpdateTableColumnStatistics refl refl (refl) refl (λ none. refl))
+by_method s (UpdatePartitionColumnStatistics new) moment m is = named s (UpdatePartitionColumnStatistics new) moment method.UpdatePartitionColumnStatistics m is (by_rules s (UpdatePartitionColumnStatistics new) moment method.UpdatePartitionColumnStatistics refl refl (refl) refl (λ none. refl))
+by_method s (GetTableColumnStatistics db name col) moment m is = named s (GetTableColumnStatistics db name col) moment method.GetTableColumnStatistics m is (by_rules s (GetTableColumnStatistics db name col) moment method.GetTableColumnStatistics refl refl (refl) refl (λ none. refl))
+by_method s (GetPartitionColumnStatistics db name part col) moment m is = named s (GetPartitionColumnStatistics db name part col) moment method.GetPartitionColumnStatistics m is (by_rules s (GetPartitionColumnStatistics db name part col) moment method.GetPartitionColumnStatistics refl refl (refl) refl (λ none. refl))
+by_method s (DeleteTableColumnStatistics db name col) moment m is = named s (DeleteTableColumnStatistics db name col) moment method.DeleteTableColumnStatistics m is (by_rules s (DeleteTableColumnStatistics db name col) moment method.DeleteTableColumnStatistics refl refl (refl) refl (λ none. refl))
+by_method s (DeletePartitionColumnStatistics db name part col) moment m is = named s (DeletePartitionColumnStatistics db name part col) moment method.DeletePartitionColumnStatistics m is (by_rules s (DeletePartitionColumnStatistics db name part col) moment method.DeletePartitionColumnStatistics refl refl (refl) refl (λ none. refl))
+by_method s (GetTableStatisticsReq db name cols) moment m is = named s (GetTableStatisticsReq db name cols) moment method.GetTableStatisticsReq m is (by_rules s (GetTableStatisticsReq db name cols) moment method.GetTableStatisticsReq refl refl (refl) refl (λ none. refl))
 by_method s (GetNextNotification last max) moment m is = subst (λ (n : Method). Can s (GetNextNotification last max) moment n) (sym is) (record { fault = refl; due = refl })
 by_method s GetCurrentNotificationEventId moment m is = subst (λ (n : Method). Can s GetCurrentNotificationEventId moment n) (sym is) (record { fault = refl; due = refl })
 
