@@ -2,6 +2,10 @@
 #![tactic(auto)]
 
 #[cfg(test)]
+mod beside;
+#[cfg(test)]
 mod given;
+#[cfg(test)]
+mod meeting;
 #[cfg(test)]
 mod tests;
