@@ -31,6 +31,8 @@ fn run(rt: &(impl Files + Print + AllocGlobal)) -> Result<(), Unable> {
     run_table(rt, "tables", &Sessions)?;
     run_table(rt, "refused_tables", &Sessions)?;
     run_table(rt, "partitions", &Sessions)?;
+    run_table(rt, "filters", &Sessions)?;
+    run_table(rt, "statistics", &Sessions)?;
     run_table(rt, "moments", &SessionsAt)?;
     run_table(rt, "faults", &Faults)?;
     run_table(rt, "stores", &Stores)
