@@ -157,22 +157,6 @@ module _ {K X : Type 0} (test other : K → Bool) (f g : X → X) (same : (x : X
   removed_changed [] = refl
   removed_changed (e ∷ es) = removed_by (test e.0) (other e.0) e es refl refl (removed_changed es)
 
--- ---- the first that passes
-
-passing_by : {X : Type 0} (b : Bool) (x : X) (xs : List X) (found : Option X) → slice_get xs 0 ≡ found → slice_get (cond (b && true) (x ∷ xs) xs) 0 ≡ cond b (Some x) found
-passing_by true x xs found more = refl
-passing_by false x xs found more = more
-
--- the first of those that pass is found
-pub first_found : {X : Type 0} (test : X → Bool) (xs : List X) → slice_get (filter (λ x. test x && true) xs) 0 ≡ find test xs
-first_found test [] = refl
-first_found test (x ∷ xs) = passing_by (test x) x (filter (λ y. test y && true) xs) (find test xs) (first_found test xs)
-
--- what an iterator gives next is the first of what it has left
-pub next_first : {A X : Type 0} (shows : A → X) (r : Option A) (left after : List X) → MatchOption r ((left ≡ []) × (after ≡ [])) (λ x. left ≡ shows x ∷ after) → option_map shows r ≡ slice_get left 0
-next_first shows None left after is = sym (ap (λ l. slice_get l 0) is.0)
-next_first shows (Some x) left after is = sym (ap (λ l. slice_get l 0) is)
-
 -- ---- a pair put in
 
 own_reverse : (o : Ordering) → o ≡ ordering_reverse o → o ≡ Equal

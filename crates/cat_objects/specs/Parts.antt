@@ -1,10 +1,10 @@
 -- The partitions of a table.
-use Rattle.std.specs.Prelude.{ℕ, Bool, List, Option, None, Some, is_some, if◌then◌else◌}
+use Rattle.std.specs.Prelude.{ℕ, Bool, List, Option, is_some, if◌then◌else◌}
 use Rattle.std.specs.BTreeMap.{insert_entry, is_at}
 use Rattle.std.specs.Cmp.Lexicographic.{slice_cmp}
-use Rattle.std.specs.List.{find, slice_get}
 use Rattle.std.specs.Map.{lookup, remove_entry, set_value}
-use Rattle.std.specs.Ordering.{is_lt, nat_cmp}
+use Rattle.std.specs.Ordering.{nat_cmp}
+use Rattle.cat_values.specs.Maps.{first_after}
 use Rattle.cat_values.specs.declared.records.PartRec.{PartRec}
 
 -- partitions, each at its values
@@ -32,6 +32,5 @@ abbrev pub moved_part : List (List ℕ) → List (List ℕ) → PartRec → Part
 moved_part values to rec parts = without_part values (put_part to rec parts)
 
 -- the first partition whose values are above these, or the first of all
-abbrev pub first_after : Option (List (List ℕ)) → PartList → Option (List (List ℕ) × PartRec)
-first_after None parts = slice_get parts 0
-first_after (Some values) parts = find (λ entry. is_lt (slice_cmp (slice_cmp nat_cmp) values entry.0)) parts
+abbrev pub part_after : Option (List (List ℕ)) → PartList → Option (List (List ℕ) × PartRec)
+part_after after parts = first_after (slice_cmp (slice_cmp nat_cmp)) after parts

@@ -1,28 +1,24 @@
 //! The partitions of a table, by their values.
 
 ghost use Rattle.std.specs.Prelude.{◌≡◌, [], length, OnErr, OnOk};
-ghost use Rattle.std.specs.BTreeMap.{insert_entry, is_at};
+ghost use Rattle.std.specs.BTreeMap.{insert_entry};
 ghost use Rattle.std.specs.Cmp.Lexicographic.{slice_cmp};
-ghost use Rattle.std.specs.List.{find};
 ghost use Rattle.std.specs.List.Sorted.{IsStrictlySortedBy};
-ghost use Rattle.std.specs.Map.{keys_of, lookup, set_value};
+ghost use Rattle.std.specs.Map.{keys_of, set_value};
 ghost use Rattle.std.specs.Option.{option_copied, option_map};
-ghost use Rattle.std.specs.Ordering.{is_lt, nat_cmp};
-ghost use Rattle.cat_objects.specs.Parts.{are_values, at_values, first_after, without_part};
+ghost use Rattle.std.specs.Ordering.{nat_cmp};
+ghost use Rattle.cat_objects.specs.Parts.{are_values, at_values, part_after, without_part};
 
-use cat_types::{NoMemory, PartRec, Texts};
+use cat_types::{MapOf, NoMemory, PartRec, Texts};
 use std::alloc::Global;
-use std::collections::BTreeMap;
 use std::collections::btree_map::Iter;
 use std::marker::Model;
-use std::mem;
-use std::ops::Bound;
 
 /// The partitions of a table, which contracts see as the list of their values and records, in rising
 /// order of their values.
 #[derive(Drop)]
 pub struct HeldParts {
-    inner: BTreeMap<Texts, PartRec>,
+    inner: MapOf<Texts, PartRec>,
 }
 
 impl Model for HeldParts {
@@ -30,7 +26,7 @@ impl Model for HeldParts {
 
     ghost Value = { PartList };
 
-    ghost view = { λ parts. parts.inner.entries };
+    ghost view = { λ parts. parts.inner };
 }
 
 impl HeldParts {
@@ -39,7 +35,7 @@ impl HeldParts {
         ensures { result ≡ [] }
     {
         HeldParts {
-            inner: BTreeMap::new(alloc),
+            inner: MapOf::new(alloc),
         }
     }
 
@@ -67,12 +63,9 @@ impl HeldParts {
 
     /// The first partition whose values are above these, or the first of all. It takes no memory.
     pub fn after(&self, after: Option<&Texts>) -> Option<(&Texts, &PartRec)>
-        ensures { option_map (λ found. (found.0.now, found.1.now)) result ≡ first_after (option_copied after.entry) self.now }
+        ensures { option_map (λ found. (found.0.now, found.1.now)) result ≡ part_after (option_copied after.entry) self.now }
     {
-        match after {
-            Some(values) => first_above(&self.inner, values),
-            None => self.inner.iter().next(),
-        }
+        self.inner.after(after)
     }
 
     /// Puts a partition, over the one with its values where there is one. After `NoMemory` they are
@@ -81,8 +74,7 @@ impl HeldParts {
         ensures ok { OnOk result (self.new ≡ insert_entry (slice_cmp (slice_cmp nat_cmp)) self.old values rec) }
         ensures err { OnErr result (self.new ≡ self.old) }
     {
-        self.inner.insert(values, rec)?;
-        Ok(())
+        self.inner.put(values, rec)
     }
 
     /// Takes a partition out, where it is there, and gives its record. It takes no memory.
@@ -99,27 +91,8 @@ impl HeldParts {
         ensures value { result ≡ at_values values.now self.old }
         ensures entries { self.new ≡ set_value (are_values values.now) self.old rec }
     {
-        swap_value(&mut self.inner, values, rec)
+        self.inner.swap(values, rec)
     }
-}
-
-// The first pair whose key is above this one.
-fn first_above<'a, K: Ord, V>(inner: &'a BTreeMap<K, V>, key: &K) -> Option<(&'a K, &'a V)>
-    ensures { option_map (λ found. (found.0.now, found.1.now)) result ≡ find (λ entry. is_lt (K.cmp key.now entry.0)) inner.now.entries }
-{
-    inner.range((Bound::Excluded(key), Bound::Unbounded)).next()
-}
-
-// Puts a value in the place of the one at a key, and gives that one. Without that key the map stays as
-// it was.
-fn swap_value<K: Ord, V: Drop>(inner: &mut BTreeMap<K, V>, key: &K, value: V) -> Option<V>
-    ensures value { result ≡ lookup (is_at (K.cmp key.now)) inner.old.entries }
-    ensures entries { inner.new.entries ≡ set_value (is_at (K.cmp key.now)) inner.old.entries value }
-{
-    let Some(place) = inner.get_mut(key) else {
-        return None;
-    };
-    Some(mem::replace(place, value))
 }
 
 /// A partition that was put: its values, and the record that stood at them before.

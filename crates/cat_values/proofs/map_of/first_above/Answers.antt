@@ -1,8 +1,8 @@
 use Rattle.std.proofs.Common.{ap, ◌∙◌}
 use Rattle.std.specs.List.{slice_get}
 use Rattle.std.specs.Ordering.{is_lt}
-use Rattle.cat_objects.proofs.Maps.{first_found, next_first}
-use Rattle.cat_objects.proofs.parts.first_above.Goals as goal
+use Rattle.cat_values.proofs.MapLemmas.{first_found, next_first}
+use Rattle.cat_values.proofs.map_of.first_above.Goals as goal
 
 pub returns : goal.returns
 returns g c =
