@@ -5,6 +5,7 @@ mod again;
 mod faults;
 mod partitions;
 mod requests;
+mod statistics;
 mod structs;
 mod tables;
 
@@ -16,7 +17,8 @@ fn main(rt: HostRuntime) -> Result<(), Unable> {
     run(&rt)
 }
 
-// Runs the table.
+// Runs the tables.
 fn run(rt: &(impl Files + Print + AllocGlobal)) -> Result<(), Unable> {
-    run_table(rt, "structs", &Structs)
+    run_table(rt, "structs", &Structs)?;
+    run_table(rt, "statistics", &Structs)
 }

@@ -3,8 +3,11 @@
 use crate::again::{Reader, rewritten};
 use crate::partitions::{Told, rewritten_partition, told_adding};
 use crate::requests::{told_context, told_request};
+use crate::statistics::{
+    Written, rewritten_data, rewritten_object, rewritten_statistics, told_stats_request,
+};
 use crate::tables::{Form, rewritten_table};
-use cat_types::{Bytes, Column, Order, Serde, Skew, Storage};
+use cat_types::{Bytes, Column, Order, Serde, Skew, StatsDesc, Storage};
 use hms_outside::MemSource;
 use std::alloc::Global;
 use table_cases::{Answers, Unable, bytes_of};
@@ -13,8 +16,8 @@ use thrift_binary::WireReader;
 /// Reads the struct that an input spells, and writes it again. An input is the struct's kind and its
 /// bytes. The outcome is the bytes that are written; of a struct that is only read, what it asks for; and
 /// `bad text`, `truncated PLACE`, `bad CODE PLACE` or `too large PLACE` where nothing is read. A
-/// GetTableResult, which is only written, is made of a Table, and an AddPartitionsResult of an
-/// AddPartitionsRequest.
+/// GetTableResult, which is only written, is made of a Table, an AddPartitionsResult of an
+/// AddPartitionsRequest, and a TableStatsResult of a ColumnStatistics.
 pub struct Structs;
 
 impl Answers for Structs {
@@ -46,6 +49,19 @@ fn told(alloc: Global, kind: &str, reader: &mut Reader<'_>) -> Result<String, Un
         "AddPartitionsResult" => told_adding(alloc, reader, Told::Result),
         "GetTableRequest" => told_request(alloc, reader),
         "EnvironmentContext" => told_context(alloc, reader),
+        _ => told_of_columns(alloc, kind, reader),
+    }
+}
+
+// What is told of a struct of this kind, of those of statistics of columns.
+fn told_of_columns(alloc: Global, kind: &str, reader: &mut Reader<'_>) -> Result<String, Unable> {
+    match kind {
+        "ColumnStatisticsData" => rewritten_data(alloc, reader),
+        "ColumnStatisticsObj" => rewritten_object(alloc, reader),
+        "ColumnStatisticsDesc" => rewritten::<StatsDesc>(alloc, reader),
+        "ColumnStatistics" => rewritten_statistics(alloc, reader, Written::Statistics),
+        "TableStatsResult" => rewritten_statistics(alloc, reader, Written::Result),
+        "TableStatsRequest" => told_stats_request(alloc, reader),
         _ => Err(Unable::Form),
     }
 }
