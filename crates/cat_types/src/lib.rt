@@ -25,4 +25,4 @@ pub use items::{Item, Items};
 pub use named::{NamedPart, NamedStat, NamedStats, NamedTable, Parts, Tables};
 pub use replicas::{Marked, MarkedOps, Phase, ReplicaRow};
 pub use replies::Reply;
-pub use steps::{Answer, Step};
+pub use steps::{Answer, DumpRefusal, Step};

@@ -38,6 +38,8 @@ pub enum Reply {
     },
     /// Events, in the order of their numbers.
     Events(Events),
+    /// A database was dumped: into which folder, and up to which event.
+    Dumped(Text, u64),
     /// The call was refused: the number of the refusal, and its text.
     Refused(u8, Text),
 }
@@ -93,6 +95,10 @@ impl TryCopy for Reply {
             },
             Reply::Events(events) => match events.copy(alloc) {
                 Ok(events) => Ok(Reply::Events(events)),
+                Err(NoMemory) => Err(NoMemory),
+            },
+            Reply::Dumped(folder, end) => match folder.copy(alloc) {
+                Ok(folder) => Ok(Reply::Dumped(folder, *end)),
                 Err(NoMemory) => Err(NoMemory),
             },
             Reply::Refused(number, text) => match text.copy(alloc) {
