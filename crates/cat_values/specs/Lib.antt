@@ -1,3 +1,4 @@
 pub mod Columns
 pub mod Gathering
+pub mod Maps
 pub mod Names

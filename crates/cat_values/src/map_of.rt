@@ -1,10 +1,13 @@
 //! A map with fewer than 2^31 pairs.
 
 ghost use Rattle.std.specs.Prelude.{◌≡◌, ◌<◌, ◌≤◌, ◌+◌, ◌-◌, [], length, slice_get, IfOk, OnOk, OnErr};
-ghost use Rattle.std.specs.Option.{option_copied};
+ghost use Rattle.std.specs.List.{find};
+ghost use Rattle.std.specs.Option.{option_copied, option_map};
 ghost use Rattle.std.specs.BTreeMap.{btree_map_len, insert_entry, is_at};
 ghost use Rattle.std.specs.List.Sorted.{IsStrictlySortedBy};
 ghost use Rattle.std.specs.Map.{keys_of, lookup, remove_entry, set_value};
+ghost use Rattle.std.specs.Ordering.{is_lt};
+ghost use Rattle.cat_values.specs.Maps.{first_after};
 
 use crate::{ListOf, NoMemory, Text, TryCopy};
 use std::alloc::Global;
@@ -12,6 +15,7 @@ use std::collections::BTreeMap;
 use std::collections::btree_map::Iter;
 use std::marker::Model;
 use std::mem;
+use std::ops::Bound;
 
 /// A map from texts to texts, the parameters of an object.
 pub type Params = MapOf<Text, Text>;
@@ -73,6 +77,16 @@ impl<K: Ord, V> MapOf<K, V> {
         }
     }
 
+    /// The pair of the first key above this one, or of the least key. It takes no memory.
+    pub fn after(&self, after: Option<&K>) -> Option<(&K, &V)>
+        ensures { option_map (λ found. (found.0.now, found.1.now)) result ≡ first_after K.cmp (option_copied after.entry) self.now }
+    {
+        match after {
+            Some(key) => first_above(&self.inner, key),
+            None => self.inner.iter().next(),
+        }
+    }
+
     /// The pairs, in rising order of their keys.
     pub fn iter(&self) -> Iter<'_, K, V>
         ensures pairs { result ≡ self.now }
@@ -128,6 +142,13 @@ impl<K: Ord + Drop, V: Drop> MapOf<K, V> {
         };
         Some(mem::replace(place, value))
     }
+}
+
+// The first pair whose key is above this one.
+fn first_above<'a, K: Ord, V>(inner: &'a BTreeMap<K, V>, key: &K) -> Option<(&'a K, &'a V)>
+    ensures { option_map (λ found. (found.0.now, found.1.now)) result ≡ find (λ entry. is_lt (K.cmp key.now entry.0)) inner.now.entries }
+{
+    inner.range((Bound::Excluded(key), Bound::Unbounded)).next()
 }
 
 // Puts a value at a key, and drops the one that was there.
