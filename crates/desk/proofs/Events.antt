@@ -56,7 +56,7 @@ from_by mid new e es false false is fits later = later
 
 -- events below a number are below each greater one
 below_both : (mid new id : ℕ) → mid ≤ new → nat_le mid id ≡ false → nat_le new id ≡ false
-below_both mid new id low no = grind (arith, nat_tests, low, no)
+below_both mid new id low above = grind (arith, nat_tests, low, above)
 
 -- events that begin with one number and then with a greater one begin with that
 from_both : (mid new : ℕ) (es : List Event) → mid ≤ new → events_from_number new (events_from_number mid es) ≡ events_from_number new es

@@ -55,6 +55,6 @@ moves_one_way begin done given a b x y = absurd x
 
 pub one_way : WalksLeadOneWay
 one_way dump begin from [] a b x y = sym x ∙ y
-one_way dump begin from (entry ∷ entries) a b (is, through, moves, goes) (other_is, other, other_moves, other_goes) =
+one_way dump begin from (entry ∷ entries) a b (is, (through, (moves, goes))) (other_is, (other, (other_moves, other_goes))) =
     let same : other ≡ through = moves_one_way begin from entry.1.answer other through other_moves moves in
     one_way dump begin through entries a b goes (subst (λ (place : Place). Goes dump begin place entries b) same other_goes)

@@ -19,7 +19,7 @@ abbrev pub IsNext : State → Option Written → Type 0
 IsNext s None = Unit {0}
 IsNext s (Some (kept event)) = event.id ≡ s.newest + 1
 IsNext s (Some (drew number)) = number ≡ s.last_dump + 1
-IsNext s (Some (trimmed first)) = (s.first ≤ first) × ((s.first ≢ first) × (first ≤ s.newest + 1))
+IsNext s (Some (trimmed first)) = (s.first ≤ first) × (s.first ≢ first) × (first ≤ s.newest + 1)
 
 next_change : (s : State) (moment : ℕ) (c : Option Change) → IsNext s (written_change s moment c)
 next_change s moment None = tt
@@ -46,7 +46,7 @@ least_at_most number (dump ∷ dumps) =
 
 -- another number isn't the same by a test
 differs_by : (old new : ℕ) → (old == new) ≡ false → old ≢ new
-differs_by old new no same =
+differs_by old new unlike same =
     let yes : (old == new) ≡ true = eq-eqb old new same in
     absurd cc
 
