@@ -37,8 +37,10 @@ kept_more old new es e (inr above) = by_test (old == new)
   where
     passes : nat_le new e.id ≡ true
     passes = grind (arith, nat_tests, above)
+
     all_more : events_from_number new (es ++ e ∷ []) ≡ events_from_number new es ++ e ∷ []
     all_more = filter-append (λ (event : Event). nat_le new event.id) es (e ∷ []) ∙ ap (λ (b : Bool). events_from_number new es ++ cond b (e ∷ []) []) passes
+
     by_test : (b : Bool) → cond b (es ++ e ∷ []) (events_from_number new (es ++ e ∷ [])) ≡ cond b es (events_from_number new es) ++ e ∷ []
     by_test true = refl
     by_test false = all_more
@@ -69,6 +71,7 @@ kept_from old mid new es first low differs = by_test (old == mid) ∙ sym (ap (�
   where
     other : (old == new) ≡ false
     other = grind (arith, nat_tests, first, low, differs)
+
     by_test : (b : Bool) → events_from_number new (cond b es (events_from_number mid es)) ≡ events_from_number new es
     by_test true = refl
     by_test false = from_both mid new es low
@@ -107,8 +110,8 @@ after_event : (old : State) (events : List Event) (s : State) (e : Event) → e.
 after_event old events s e id h = record {
   catalogue = ap (λ (c : Catalogue). done e.change c) h.catalogue ∙ sym (catalogue_after-push old.catalogue events e);
   kept = ap (λ (l : List Event). l ++ e ∷ []) h.kept
-    ∙ sym (kept_more old.first s.first (old.events ++ events) e (bound_at s.first old.first s.newest e.id id h.bounded))
-    ∙ ap (still_kept old.first s.first) (append_assoc old.events events (e ∷ []));
+      ∙ sym (kept_more old.first s.first (old.events ++ events) e (bound_at s.first old.first s.newest e.id id h.bounded))
+      ∙ ap (still_kept old.first s.first) (append_assoc old.events events (e ∷ []));
   numbered = Numbered-push old.newest events e h.numbered (omega (arith, id, h.newest));
   newest = omega (arith, id, h.newest, length-append events (e ∷ []));
   id = h.id;

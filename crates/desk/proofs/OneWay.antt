@@ -1,14 +1,13 @@
 -- A walk is followed in one way only.
-use Rattle.std.proofs.Common.{◌≡◌, ℕ, ℤ, Bool, List, [], ◌∷◌, Option, Some, None, inl, inr, refl, sym, ◌∙◌, ap, subst}
+use Rattle.std.proofs.Common.{◌≡◌, ℕ, Bool, List, [], ◌∷◌, Option, Some, None, inl, inr, sym, ◌∙◌, ap, subst}
 use Rattle.std.specs.Prelude.{if◌then◌else◌}
 use Rattle.cat_types.specs.declared.changes.Event.{Event}
 use Rattle.cat_types.specs.declared.items.Item.{Item}
 use Rattle.cat_types.specs.declared.items.Item.TheVariants as item
 use Rattle.cat_types.specs.declared.steps.Answer.{Answer}
 use Rattle.cat_types.specs.declared.steps.Answer.TheVariants as answer
-use Rattle.desk.specs.History.{Entry}
 use Rattle.desk.specs.Laws.{WalksLeadOneWay}
-use Rattle.desk.specs.Walks.{AfterEvents, AfterParts, AfterSeal, AfterTable, Goes, Moves, Place, TableCame, done, end, events, last_number, last_values, parts, seal, tables}
+use Rattle.desk.specs.Walks.{AfterEvents, AfterParts, AfterTable, Goes, Moves, Place, TableCame, done, end, events, last_number, last_values, parts, seal, tables}
 
 -- two tables that came are one
 same_table : (given : Answer) (a b : Place) → TableCame given a → TableCame given b → a ≡ b

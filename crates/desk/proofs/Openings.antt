@@ -1,12 +1,12 @@
 -- What an opening gives is on the disks.
-use Rattle.std.proofs.Common.{◌≡◌, ℕ, zero, suc, Bool, true, false, List, [], ◌∷◌, ◌++◌, Option, Some, None, refl, sym, ap, subst}
+use Rattle.std.proofs.Common.{◌≡◌, ℕ, zero, suc, Bool, true, false, List, [], ◌∷◌, ◌++◌, Option, Some, None, refl, sym, ap}
 use Rattle.std.specs.Prelude.{cond}
 use Rattle.dump_steps.specs.declared.open_dumps.OpenDump.{OpenDump}
 use Rattle.desk.specs.History.{Entry, Pending, Transition, Point, took, reopened, found, found_done, pending_at, next, point_after, point_of, state_found}
 use Rattle.desk.specs.Laws.{OpenedIsDurable, OpeningsEndDumps}
 use Rattle.desk.specs.State.{State, durable, is_refused, with_dumps, writes}
 
--- with no pending step a dump is open
+-- no pending step leaves a dump open
 abbrev NoDumps : List Pending → Type 0
 NoDumps [] = Unit {0}
 NoDumps (l ∷ ls) = (l.state.dumps ≡ []) × NoDumps ls
@@ -15,7 +15,7 @@ none_push : (ls : List Pending) (l : Pending) → NoDumps ls → l.state.dumps �
 none_push [] l all one = (one, tt)
 none_push (x ∷ ls) l all one = (all.0, none_push ls l all.1 one)
 
--- behind an entry, by whether it writes and whether it was refused
+-- after an entry, by whether it writes and whether it was refused
 none_by : (writing refused : Bool) (p : Point) (e : Entry) → NoDumps p.pending → NoDumps (cond writing (cond refused (p.pending ++ pending_at p.state e.0.caller e.0.step ∷ []) []) p.pending)
 none_by true true p e all = none_push p.pending (pending_at p.state e.0.caller e.0.step) all refl
 none_by true false p e all = tt

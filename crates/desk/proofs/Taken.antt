@@ -4,7 +4,6 @@ use Rattle.std.specs.Prelude.{cond}
 use Rattle.cat_types.specs.declared.steps.Answer.{Answer}
 use Rattle.cat_types.specs.declared.steps.Answer.TheVariants as answer
 use Rattle.cat_types.specs.declared.steps.DumpRefusal.TheVariants.{DatabaseGone}
-use Rattle.cat_types.specs.declared.steps.Step.{Step}
 use Rattle.cat_types.specs.declared.steps.Step.TheVariants.{Client, DumpBegin, DumpEnd, DumpEvents, DumpParts, DumpSeal, DumpTable, Trim}
 use Rattle.cat_objects.specs.Catalogue.{Catalogue, database}
 use Rattle.cat_objects.specs.Changes.{is_born}
@@ -14,7 +13,7 @@ use Rattle.dump_steps.specs.Pieces.{answered_in, next_events, next_parts, next_t
 use Rattle.dump_steps.specs.declared.open_dumps.DumpKind.{DumpKind}
 use Rattle.dump_steps.specs.declared.open_dumps.OpenDump.{OpenDump}
 use Rattle.desk.specs.Laws.{DueStepsAreTaken}
-use Rattle.desk.specs.State.{Beginning, State, asked_for, begin_answer, beginning, end_answer, is_refused, opens, unbegun}
+use Rattle.desk.specs.State.{Beginning, asked_for, begin_answer, beginning, end_answer, is_refused, opens, unbegun}
 
 begun_taken : (id : List ℕ) (b : Beginning) → is_refused (begin_answer id b) ≡ false
 begun_taken id (unbegun refusal) = refl

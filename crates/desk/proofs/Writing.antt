@@ -1,12 +1,12 @@
 -- Which steps write, and what is written.
-use Rattle.std.proofs.Common.{◌≡◌, ◌≢◌, ◌≤◌, ℕ, ◌+◌, Bool, true, false, List, [], ◌∷◌, Option, Some, None, is_some, refl, sym, ◌∙◌, ap, eq-eqb, arith}
+use Rattle.std.proofs.Common.{◌≡◌, ◌≢◌, ◌≤◌, ℕ, ◌+◌, Bool, true, false, List, [], ◌∷◌, Option, Some, None, is_some, refl, sym, ap, eq-eqb, arith}
 use Rattle.std.specs.Prelude.{ℤ, cond, max, min, ◌==◌}
 use Rattle.cat_types.specs.declared.changes.Change.{Change}
 use Rattle.cat_types.specs.declared.steps.DumpRefusal.{DumpRefusal}
 use Rattle.cat_types.specs.declared.steps.Step.{Step}
 use Rattle.cat_types.specs.declared.steps.Step.TheVariants.{Client, DumpBegin, DumpEnd, DumpEvents, DumpParts, DumpSeal, DumpTable, Trim}
 use Rattle.cat_objects.specs.Changes.{has_operation}
-use Rattle.dump_steps.specs.Open.{least_begin, number_asked, trim_end}
+use Rattle.dump_steps.specs.Open.{least_begin, number_asked}
 use Rattle.dump_steps.specs.declared.open_dumps.OpenDump.{OpenDump}
 use Rattle.rulings.specs.Decisions.{Decision, accepted, refused}
 use Rattle.desk.specs.Laws.{WritesWhereTheDisksChange}
