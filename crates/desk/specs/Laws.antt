@@ -113,12 +113,12 @@ PollsWriteNothing = (s : State) (call : Call) (moment : ℕ) → IsSome (poll_of
 abbrev pub OpeningsGiveTheDisks : Type 0
 OpeningsGiveTheDisks = (p : Point) (fault : ℕ) → (next p (reopened None fault)).state ≡ durable p.state
 
--- Behind an opening, whatever it finds, all of the state is on the disks.
+-- After an opening, whatever it finds, all of the state is on the disks.
 abbrev pub OpenedIsDurable : Type 0
 OpenedIsDurable = (s : Start) (history : List Transition) (a : Option ℕ) (fault : ℕ)
     → durable (next (point_after (point_of s) history) (reopened a fault)).state ≡ (next (point_after (point_of s) history) (reopened a fault)).state
 
--- Behind an opening no dump is open.
+-- After an opening no dump is open.
 abbrev pub OpeningsEndDumps : Type 0
 OpeningsEndDumps = (s : Start) (history : List Transition) (a : Option ℕ) (fault : ℕ) → (next (point_after (point_of s) history) (reopened a fault)).state.dumps ≡ []
 

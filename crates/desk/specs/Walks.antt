@@ -20,7 +20,7 @@ pub data Place : Type 0 where
   end : Place
   done : Place
 
--- the one step that a walk of the dump with this number takes there; none behind its end
+-- the one step that a walk of the dump with this number takes there; none after its end
 abbrev pub step_at : ℕ → Place → Option Step
 step_at dump (tables after) = Some (DumpTable dump after)
 step_at dump (parts table born after) = Some (DumpParts dump table born after)
@@ -127,7 +127,7 @@ pub record Walked (wanted : Wanted) (began : Began) (entries : List Entry) (to :
   pub answer : beginning.1.answer ≡ began_answer began
   pub goes : Goes began.dump began.begin (place_begun began.begin began.first) others to
 
--- a whole walk: from its beginning to behind its end
+-- a whole walk: from its beginning to its end
 abbrev pub Walk : Wanted → Began → List Entry → Type 0
 Walk wanted began entries = Walked wanted began entries done
 
