@@ -1,0 +1,4 @@
+pub mod Files
+pub mod Items
+pub mod Events
+pub mod Steps
