@@ -46,14 +46,14 @@ may_do creation (op.DropPart table born values) = true
 may_do creation (op.MovePart table born values to rec) = true
 
 -- a change of the manifest's database, by name and born, which it neither makes nor drops
-abbrev pub is_within : List ℕ → Bounds → Change → Bool
-is_within db bounds change = (bytes_eq change.db db && change.db_born == bounds.born) && list_all (may_do (is_creation change.kind)) change.ops
+abbrev pub is_within : Bounds → Change → Bool
+is_within bounds change = (bytes_eq change.db bounds.db && change.db_born == bounds.born) && list_all (may_do (is_creation change.kind)) change.ops
 
 -- which event may stand behind the last one and at a place in its file, which holds 256 at most
-unfoldable pub event_stands : List ℕ → Bounds → Rule Event
-event_stands db bounds last place event =
-    (nat_lt place 256 && is_numbered bounds last event) && is_within db bounds event.change
+unfoldable pub event_stands : Bounds → Rule Event
+event_stands bounds last place event =
+    (nat_lt place 256 && is_numbered bounds last event) && is_within bounds event.change
 
 -- an event file behind the last event of the files before it
-abbrev pub event_file : List ℕ → Bounds → Option Event → Form (List Event)
-event_file db bounds = file_of (event_stands db bounds) (event newest)
+abbrev pub event_file : Bounds → Option Event → Form (List Event)
+event_file bounds = file_of (event_stands bounds) (event newest)

@@ -8,48 +8,47 @@ ghost use Rattle.change_codec.specs.Forms.{Reading, count_read};
 ghost use Rattle.change_codec.specs.Whole.{whole_by};
 ghost use Rattle.dump_files.specs.Files.{BeginsWith, Judges, Rule, element_read, elements_read, file_read};
 ghost use Rattle.dump_files.specs.Steps.{Comes, Grows, GrowsByOne};
+ghost use Rattle.dump_files.specs.declared.bounds.Bounds.{Bounds};
 
-use crate::FileFault;
+use crate::{Bounds, FileFault};
 use cat_types::ListOf;
 use change_codec::read_count;
 use std::alloc::Global;
 
-/// What the elements of a file are judged by.
-pub trait Judge {
-    type Element: Drop;
+/// An element of a dump's files.
+pub trait Judged: Drop {
+    /// How it is read.
+    ghost read: { List ℕ → Reading Self };
 
-    /// How an element is read.
-    ghost read: { List ℕ → Reading Element };
-
-    /// Which elements may stand where.
-    ghost rule: { Self → Rule Element };
+    /// Where it may stand in a dump.
+    ghost rule: { Bounds → Rule Self };
 
     /// The element from an offset on, and the offset behind it.
-    fn next(alloc: Global, bytes: &[u8], at: u64) -> Result<(Self::Element, u64), FileFault>
+    fn next(alloc: Global, bytes: &[u8], at: u64) -> Result<(Self, u64), FileFault>
         requires { at ≤ length bytes.now }
         ensures { Comes bytes.now (read (drop at bytes.now)) result };
 
-    /// Whether the element may stand behind the last one, at a place in its file.
-    fn may_stand(&self, last: Option<&Self::Element>, place: u32, element: &Self::Element) -> bool
-        ensures { result ≡ rule self.now (option_copied last.entry) place element.now };
+    /// Whether it may stand behind the last element, at a place in its file.
+    fn may_stand(&self, bounds: &Bounds, last: Option<&Self>, place: u32) -> bool
+        ensures { result ≡ rule bounds.now (option_copied last.entry) place self.now };
 }
 
 /// Adds the elements of one file to those of the files before it. After a fault `elements` begins
 /// with what it held.
-pub fn read_file<J: Judge>(
+pub fn read_file<T: Judged>(
     alloc: Global,
-    judge: &J,
+    bounds: &Bounds,
     bytes: &[u8],
-    elements: &mut ListOf<J::Element>,
+    elements: &mut ListOf<T>,
 ) -> Result<(), FileFault>
     ensures kept { BeginsWith elements.old elements.new }
-    ensures exact { Judges (whole_by (length bytes.now) (file_read (J.rule judge.now) (last_or None elements.old) J.read bytes.now)) elements.old elements.new result }
+    ensures exact { Judges (whole_by (length bytes.now) (file_read (T.rule bounds.now) (last_or None elements.old) T.read bytes.now)) elements.old elements.new result }
 {
     let (count, first) = count_of(bytes)?;
     if count == 0 {
         return Err(FileFault::Grammar(first));
     }
-    let behind = read_elements(alloc, judge, bytes, first, count, elements)?;
+    let behind = read_elements(alloc, bounds, bytes, first, count, elements)?;
     if behind < bytes.len() as u64 {
         return Err(FileFault::Grammar(behind));
     }
@@ -67,40 +66,40 @@ fn count_of(bytes: &[u8]) -> Result<(u32, u64), FileFault>
 }
 
 // Adds so many elements from an offset on, and answers the offset behind them.
-fn read_elements<J: Judge>(
+fn read_elements<T: Judged>(
     alloc: Global,
-    judge: &J,
+    bounds: &Bounds,
     bytes: &[u8],
     first: u64,
     count: u32,
-    elements: &mut ListOf<J::Element>,
+    elements: &mut ListOf<T>,
 ) -> Result<u64, FileFault>
     requires { first ≤ length bytes.now }
     ensures kept { BeginsWith elements.old elements.new }
-    ensures exact { Grows bytes.now (elements_read (J.rule judge.now) J.read count (last_or None elements.old) 0 (drop first bytes.now)) elements.old elements.new result }
+    ensures exact { Grows bytes.now (elements_read (T.rule bounds.now) T.read count (last_or None elements.old) 0 (drop first bytes.now)) elements.old elements.new result }
 {
     let mut at = first;
     for place in 0..count {
-        at = read_element(alloc, judge, bytes, at, place, elements)?;
+        at = read_element(alloc, bounds, bytes, at, place, elements)?;
     }
     Ok(at)
 }
 
 // Adds the element from an offset on, where it may stand there, and answers the offset behind it.
-fn read_element<J: Judge>(
+fn read_element<T: Judged>(
     alloc: Global,
-    judge: &J,
+    bounds: &Bounds,
     bytes: &[u8],
     at: u64,
     place: u32,
-    elements: &mut ListOf<J::Element>,
+    elements: &mut ListOf<T>,
 ) -> Result<u64, FileFault>
     requires { at ≤ length bytes.now }
     ensures kept { OnErr result (elements.new ≡ elements.old) }
-    ensures exact { GrowsByOne bytes.now (element_read (J.rule judge.now (last_or None elements.old) place) J.read (drop at bytes.now)) elements.old elements.new result }
+    ensures exact { GrowsByOne bytes.now (element_read (T.rule bounds.now (last_or None elements.old) place) T.read (drop at bytes.now)) elements.old elements.new result }
 {
-    let (element, behind) = J::next(alloc, bytes, at)?;
-    if !judge.may_stand(last_of(elements), place, &element) {
+    let (element, behind) = T::next(alloc, bytes, at)?;
+    if !element.may_stand(bounds, last_of(elements), place) {
         drop(element);
         return Err(FileFault::Grammar(at));
     }
