@@ -1,5 +1,6 @@
 -- Files are read as they are written, and where they stop to be read.
 use Rattle.std.proofs.Common.{◌≡◌, ◌≢◌, ◌==◌, ℕ, zero, suc, ◌-◌, ◌<◌, Bool, true, false, cond, List, [], ◌∷◌, ◌++◌, length, Option, Some, Ok, Err, refl, sym, ap, subst, ◌∙◌, append_assoc, arith}
+use Rattle.std.proofs.lemmas.Bool.{ne_eqb}
 use Rattle.std.specs.List.{AllByRecursion, flat_map}
 use Rattle.std.specs.Int.{w32, to_be_bytes}
 use Rattle.cat_values.specs.declared.list_of.TheConstants.{LIST_END}
@@ -50,7 +51,7 @@ module _ {T : Type 0} (rule : Rule T) (read : List ℕ → Reading T) (p : IsSte
 -- a list with an element has a count that isn't 0
 some_count : {T : Type 0} (elements : List T) → elements ≢ [] → (length elements == 0) ≡ false
 some_count [] some = absurd (some refl)
-some_count (x ∷ xs) some = refl
+some_count (x ∷ xs) some = ne_eqb (length (x ∷ xs)) 0 (λ e. absurd (omega (arith, e)))
 
 count_some : {T : Type 0} (elements : List T) (count : ℕ) → length elements ≡ count → (count == 0) ≡ false → elements ≢ []
 count_some [] count len some none = let zero_count : (count == 0) ≡ true = rw (sym len) refl in absurd (let never : true ≡ false = sym zero_count ∙ some in cc)
