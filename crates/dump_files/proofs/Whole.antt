@@ -18,7 +18,7 @@ refused offset = Err offset
 
 -- reading that stops is told as a fault
 stop_is : {T : Type 0} (bytes : List ℕ) (reading : Reading (List T)) (old new : List T) (f : FileFault) → StopsAt bytes reading f → Judges (whole_by (length bytes) reading) old new (Err f)
-stop_is {T} bytes reading old new (fault.Grammar offset) s = ap (whole_by (length bytes)) s.1 ∙ ap (refused {T}) (sym s.2)
+stop_is {T} bytes reading old new (fault.Grammar offset) s = ap (whole_by (length bytes)) s.1 ∙ ap (refused {T = T}) (sym s.2)
 stop_is bytes reading old new fault.NoMemory s = tt
 
 -- what was read, and bytes are left over, or none
