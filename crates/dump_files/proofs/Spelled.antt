@@ -1,15 +1,15 @@
 -- Files are read as they are written, and where they stop to be read.
-use Rattle.std.proofs.Common.{◌≡◌, ◌≢◌, ◌==◌, ℕ, zero, suc, ◌-◌, ◌<◌, Bool, true, false, cond, List, [], ◌∷◌, ◌++◌, length, Option, Some, Ok, Err, refl, sym, ap, subst, ◌∙◌, append_assoc, arith}
+use Rattle.std.proofs.Common.{◌≡◌, ◌≢◌, ◌==◌, ℕ, zero, suc, ◌-◌, Bool, true, false, cond, List, [], ◌∷◌, ◌++◌, length, Option, Some, Ok, Err, refl, sym, ap, subst, ◌∙◌, append_assoc, arith}
 use Rattle.std.proofs.lemmas.Bool.{ne_eqb}
 use Rattle.std.specs.List.{AllByRecursion, flat_map}
 use Rattle.std.specs.Int.{w32, to_be_bytes}
 use Rattle.cat_values.specs.declared.list_of.TheConstants.{LIST_END}
 use Rattle.change_codec.specs.Forms.{Form, Reading, ◌>>=◌, count_read}
 use Rattle.change_codec.specs.Whole.{AreBytes}
-use Rattle.change_codec.proofs.Bind.{bind_ok, guard_ok, let_ok, ok_is, AreBytes-behind}
+use Rattle.change_codec.proofs.Bind.{bind_ok, let_ok, ok_is, AreBytes-behind}
 use Rattle.change_codec.proofs.Numbers.{IsLawful, count_again, count_spelled}
 use Rattle.change_codec.proofs.Places.{IsSteady, both-steady, count-steady, err_is, given-steady, judged-steady}
-use Rattle.dump_files.specs.Files.{AllStand, IsFile, Rule, element_read, elements_read, file_of, file_read}
+use Rattle.dump_files.specs.Files.{AllStand, Rule, element_read, elements_read, file_of, file_read}
 
 -- reading that stops at once
 stopped-steady : {T : Type 0} → IsSteady {T = T} (λ bytes. Err (length bytes))
@@ -121,8 +121,7 @@ module _ {T : Type 0} (rule : Rule T) (form : Form T) (p : IsLawful form) where
       let x = bind_ok (count_read (LIST_END - 1) bytes) (λ n. cond (n.0 == 0) (Err (length n.1)) (elements_read rule form.read n.0 last 0 n.1)) (elements, rest) e in
       let g = read_on (x.0.0 == 0) (length x.0.1) (elements_read rule form.read x.0.0 last 0 x.0.1) (elements, rest) x.2 in
       let n = count_spelled (LIST_END - 1) bytes x.0.0 x.0.1 are x.1 in
-      let t = elements_spelled x.0.0 last 0 x.0.1 elements rest (AreBytes-behind (to_be_bytes w32 x.0.0) x.0.1 (subst AreBytes n.0 are)) g.1 in
-      (
+      let t = elements_spelled x.0.0 last 0 x.0.1 elements rest (AreBytes-behind (to_be_bytes w32 x.0.0) x.0.1 (subst AreBytes n.0 are)) g.1 in (
         n.0 ∙ ap (λ (l : List ℕ). to_be_bytes w32 x.0.0 ++ l) t.is ∙ sym (append_assoc (to_be_bytes w32 x.0.0) (flat_map form.code elements) rest) ∙ ap (λ (m : ℕ). (to_be_bytes w32 m ++ flat_map form.code elements) ++ rest) (sym t.len),
         ((count_some elements x.0.0 t.len g.0, t.stand), (omega (arith, t.len, n.1), t.fits)),
       )

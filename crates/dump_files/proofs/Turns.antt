@@ -1,11 +1,10 @@
 -- Reading elements one after the other, as a loop does, from offset to offset.
-use Rattle.std.proofs.Common.{◌≡◌, ◌==◌, ℕ, zero, suc, ◌-◌, ◌+◌, ◌≤◌, ◌<◌, Bool, true, false, cond, List, [], ◌∷◌, ◌++◌, length, drop, Option, Some, None, Result, Ok, Err, refl, sym, ap, subst, ◌∙◌, append_assoc, append-nil, length-append, arith}
+use Rattle.std.proofs.Common.{◌≡◌, ℕ, zero, suc, ◌-◌, ◌+◌, ◌≤◌, ◌<◌, Bool, true, false, List, [], ◌∷◌, ◌++◌, length, drop, Option, Some, None, Ok, Err, refl, sym, ap, ◌∙◌, append_assoc, append-nil, length-append, arith}
 use Rattle.std.specs.List.{last_or, slice_get}
-use Rattle.std.specs.Prelude.{OnErr}
 use Rattle.std.proofs.lemmas.List.{length-drop}
 use Rattle.change_codec.specs.Forms.{Reading, ◌>>=◌}
 use Rattle.change_codec.specs.Whole.{at_by}
-use Rattle.change_codec.proofs.Places.{IsSteady, err_is, never}
+use Rattle.change_codec.proofs.Places.{IsSteady, never}
 use Rattle.change_codec.proofs.Bind.{ok_is}
 use Rattle.change_codec.proofs.Loops.{with_front}
 use Rattle.dump_files.specs.declared.fault.FileFault.{FileFault}

@@ -1,10 +1,10 @@
 -- What a whole file is read as.
-use Rattle.std.proofs.Common.{◌≡◌, ◌==◌, ℕ, ◌-◌, ◌≤◌, ◌<◌, Bool, true, false, cond, List, [], ◌∷◌, ◌++◌, length, drop, Option, Result, Ok, Err, refl, sym, ap, subst, ◌∙◌, append-nil, arith}
+use Rattle.std.proofs.Common.{◌≡◌, ◌==◌, ℕ, ◌-◌, ◌≤◌, ◌<◌, true, false, List, [], ◌∷◌, length, drop, Option, Result, Ok, Err, refl, sym, ap, subst, ◌∙◌, append-nil, arith}
 use Rattle.std.proofs.lemmas.Bool.{ne_eqb}
 use Rattle.std.proofs.lemmas.List.{length-drop}
 use Rattle.std.specs.Prelude.{OnOk}
 use Rattle.cat_values.specs.declared.list_of.TheConstants.{LIST_END}
-use Rattle.change_codec.specs.Forms.{Form, Reading, ◌>>=◌, count_read}
+use Rattle.change_codec.specs.Forms.{Form, Reading, count_read}
 use Rattle.change_codec.specs.Whole.{AreBytes, whole, whole_by}
 use Rattle.change_codec.proofs.Bind.{ok_is}
 use Rattle.change_codec.proofs.Numbers.{IsLawful}

@@ -41,9 +41,7 @@ impl Judged for Item {
 
     #[tactic(auto, unfolding(crate::specs::Items::item_stands))]
     fn may_stand(&self, bounds: &Bounds, last: Option<&Item>, place: u32) -> bool {
-        follows(bounds, last, self)
-            && may_share(last, place, self)
-            && is_marked(bounds, last, self)
+        follows(bounds, last, self) && may_share(last, place, self) && is_marked(bounds, last, self)
     }
 }
 

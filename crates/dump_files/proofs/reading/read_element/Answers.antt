@@ -1,4 +1,4 @@
-use Rattle.std.proofs.Common.{◌∙◌, None, ap, sym}
+use Rattle.std.proofs.Common.{◌∙◌, ap, sym}
 use Rattle.std.proofs.lemmas.Result.{err_from_is_err_and}
 use Rattle.dump_files.proofs.Turns.{element_goes_on, element_refused, element_stops}
 use Rattle.dump_files.proofs.reading.read_element.Goals as goal
@@ -14,10 +14,9 @@ returns-then-not-may_stand-clause-exact g c =
     (ap (λ (o : _). g.T.Judged.rule c.args.bounds.now o c.args.place c.in_ok-element.element) (sym c.last_of.ensures) ∙ sym c.may_stand.ensures ∙ c.if-not-may_stand.true) c.in_ok-element.ensures
 
 pub returns-clause-exact : goal.returns-clause-exact
-returns-clause-exact g c =
-    (
-      c.in_ok-element.element,
-      c.in_ok-push.ensures.ok,
-      element_goes_on _ g.T.Judged.read c.args.bytes.now _ c.in_ok-element.element c.in_ok-element.behind
+returns-clause-exact g c = (
+  c.in_ok-element.element,
+  c.in_ok-push.ensures.ok,
+  element_goes_on _ g.T.Judged.read c.args.bytes.now _ c.in_ok-element.element c.in_ok-element.behind
       (ap (λ (o : _). g.T.Judged.rule c.args.bounds.now o c.args.place c.in_ok-element.element) (sym c.last_of.ensures) ∙ sym c.may_stand.ensures ∙ c.if-not-may_stand.false) c.in_ok-element.ensures,
-    )
+)

@@ -17,7 +17,7 @@ pub returns-in_err-behind-clause-exact : goal.returns-in_err-behind-clause-exact
 returns-in_err-behind-clause-exact g c =
     let p = err_from_is_err_and c.from_residual-in_err-behind.result c.from_residual-in_err-behind.ensures.1 in
     rw (p.1, p.2) (elements_stop (g.T.Judged.rule c.args.bounds.now) (last_or None c.args.elements.now) g.T.Judged.read c.args.bytes.now c.args.elements.now c.read_elements.new.elements c.in_ok-count.count c.in_ok-count.first c.in_ok-count.ensures (omega (arith, c.if-count-eq0.false))
-      c.in_err-behind.field-0.0 c.in_err-behind.ensures.exact)
+    c.in_err-behind.field-0.0 c.in_err-behind.ensures.exact)
 
 pub returns-then-behind-bytes-clause-exact : goal.returns-then-behind-bytes-clause-exact
 returns-then-behind-bytes-clause-exact g c =
@@ -27,10 +27,9 @@ returns-then-behind-bytes-clause-exact g c =
 
 pub returns-clause-exact : goal.returns-clause-exact
 returns-clause-exact g c =
-    let e = c.in_ok-behind.ensures.exact in
-    (
+    let e = c.in_ok-behind.ensures.exact in (
       e.0,
       all_read (g.T.Judged.rule c.args.bounds.now) (last_or None c.args.elements.now) g.T.Judged.read c.args.bytes.now c.args.elements.now c.read_elements.new.elements c.in_ok-count.count c.in_ok-count.first c.in_ok-count.ensures (omega (arith, c.if-count-eq0.false))
-      e.0 c.in_ok-behind.behind e.2 (omega (arith, c.if-behind-bytes.false)),
+          e.0 c.in_ok-behind.behind e.2 (omega (arith, c.if-behind-bytes.false)),
       e.1,
     )

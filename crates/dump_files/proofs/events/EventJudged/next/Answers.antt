@@ -1,4 +1,4 @@
-use Rattle.change_codec.specs.Records.{event, newest}
+use Rattle.change_codec.specs.Records.{newest}
 use Rattle.change_codec.proofs.Steady.{event-steady}
 use Rattle.dump_files.proofs.Turns.{comes}
 use Rattle.dump_files.proofs.events.EventJudged.next.Goals as goal

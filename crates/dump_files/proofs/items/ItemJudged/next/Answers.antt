@@ -1,4 +1,4 @@
-use Rattle.change_codec.specs.Records.{an_item, newest}
+use Rattle.change_codec.specs.Records.{newest}
 use Rattle.change_codec.proofs.Steady.{item-steady}
 use Rattle.dump_files.proofs.Turns.{comes}
 use Rattle.dump_files.proofs.items.ItemJudged.next.Goals as goal
