@@ -1,3 +1,4 @@
 pub mod Spelled
 pub mod Turns
 pub mod Whole
+pub mod Walks

@@ -8,6 +8,7 @@ mod fault;
 mod items;
 mod laws;
 mod reading;
+mod rows;
 
 pub use bounds::Bounds;
 pub use events::read_event_file;
@@ -17,3 +18,4 @@ pub use laws::{
     each_file_has_one_spelling, each_file_is_read_again, each_file_is_refused_in_place,
     each_file_is_spelled_as_read,
 };
+pub use rows::{event_files_are_in_order, item_files_are_in_order, item_files_are_of_one_kind};
