@@ -2,3 +2,4 @@ pub mod Spelled
 pub mod Turns
 pub mod Whole
 pub mod Walks
+pub mod Joined
