@@ -1,5 +1,5 @@
 -- A row of files, and one file more.
-use Rattle.std.proofs.Common.{◌≡◌, List, [], ◌∷◌, ◌++◌, Option, refl, sym, ap, subst, ◌∙◌, append-nil, append_assoc}
+use Rattle.std.proofs.Common.{◌≡◌, List, [], ◌∷◌, ◌++◌, Option, sym, ap, subst, ◌∙◌, append-nil, append_assoc}
 use Rattle.std.specs.List.{last_or}
 use Rattle.dump_files.specs.Files.{AreFiles, IsFile, Rule}
 use Rattle.dump_files.specs.Rows.{all_of}

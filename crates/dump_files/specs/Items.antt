@@ -46,6 +46,7 @@ follows bounds (Some last) (Db at born rec) = false
 follows bounds (Some last) (Table at table born rec) = rises_above last table
 follows bounds (Some last) (Part at table born values rec) = goes_on last table born values
 
+-- whether an item is a partition's
 abbrev pub is_part : Item → Bool
 is_part (Db at born rec) = false
 is_part (Table at table born rec) = false
