@@ -1,0 +1,5 @@
+pub mod Spelled
+pub mod Turns
+pub mod Whole
+pub mod Walks
+pub mod Joined
