@@ -22,7 +22,10 @@ use Rattle.stat_structs.proofs.StringLaws.{string_read}
 
 -- ---- the last member counts
 
-no_choice : (a b c : Bool) → (if a then Nothing else (if b then Nothing else (if c then Nothing else Nothing))) ≡ Nothing {T = StatValue}
+abbrev nothing : Got StatValue
+nothing = Nothing
+
+no_choice : (a b c : Bool) → (if a then nothing else (if b then nothing else (if c then nothing else nothing))) ≡ nothing
 no_choice true b c = refl
 no_choice false true c = refl
 no_choice false false true = refl
