@@ -1,6 +1,5 @@
 -- Statistics of flags: the order of fields is free, and what is written reads back.
 use Rattle.std.proofs.Common.{◌≡◌, ℤ, pos, refl, sym, ap, ◌∙◌}
-use Rattle.cat_values.specs.declared.statistics.StatValue.{StatValue}
 use Rattle.cat_values.specs.declared.statistics.StatValue.TheVariants.{Flags, Long, Str}
 use Rattle.thrift_binary.specs.Codes.{i64_code}
 use Rattle.thrift_binary.specs.Tree.{Fields}

@@ -1,5 +1,5 @@
 -- Values as members: the last member counts, and what is written reads back.
-use Rattle.std.proofs.Common.{◌≡◌, ℕ, ℤ, pos, Bool, true, false, if◌then◌else◌, Some, None, refl, ap, ◌∙◌, inl, inr, ne_eqb}
+use Rattle.std.proofs.Common.{◌≡◌, ℕ, ℤ, pos, Bool, true, false, if◌then◌else◌, Some, refl, ap, ◌∙◌, inl, inr, ne_eqb}
 use Rattle.std.specs.Ordering.{int_eq}
 use Rattle.cat_values.specs.declared.statistics.StatValue.{StatValue}
 use Rattle.cat_values.specs.declared.statistics.StatValue.TheVariants.{Flags, Long, Str}
