@@ -12,8 +12,8 @@ ghost use Rattle.stat_structs.specs.Requests.{request_of};
 ghost use Rattle.stat_structs.specs.Statistics.{statistics_of};
 ghost use Rattle.stat_structs.specs.Strings.{IsStr, string_made, string_of, string_tree};
 
-/// The order of fields with different ids doesn't count, but among the members of a
-/// ColumnStatisticsData, which aren't named here.
+/// The order of fields with different ids doesn't count. Among the members of a ColumnStatisticsData
+/// it does, as `last_member_counts` says.
 pub fn order_is_free()
     ensures flags { OrderIsFree flags_of }
     ensures longs { OrderIsFree long_of }
