@@ -1,1 +1,10 @@
 pub mod Eights
+pub mod DescLaws
+pub mod FlagLaws
+pub mod ListsRead
+pub mod LongLaws
+pub mod MemberLaws
+pub mod ObjectLaws
+pub mod RequestLaws
+pub mod StatisticsLaws
+pub mod StringLaws

@@ -7,3 +7,5 @@ pub mod Objects
 pub mod Descs
 pub mod Statistics
 pub mod Requests
+pub mod Kept
+pub mod Laws

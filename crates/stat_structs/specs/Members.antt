@@ -1,5 +1,5 @@
 -- ColumnStatisticsData: what its members say, and how it is written.
-use Rattle.std.specs.Prelude.{ℕ, ℤ, pos, List, [], ◌∷◌, Option, Some, if◌then◌else◌}
+use Rattle.std.specs.Prelude.{ℕ, ℤ, pos, [], ◌∷◌, Option, Some, if◌then◌else◌}
 use Rattle.std.specs.Ordering.{int_eq}
 use Rattle.cat_values.specs.declared.statistics.StatValue.{StatValue}
 use Rattle.cat_values.specs.declared.statistics.StatValue.TheVariants.{Flags, Long, Str}

@@ -1,5 +1,5 @@
 -- ColumnStatisticsObj: what its fields say, and how it is written.
-use Rattle.std.specs.Prelude.{ℕ, ℤ, pos, List, [], ◌∷◌, Option, None, Bool, ◌||◌}
+use Rattle.std.specs.Prelude.{ℕ, ℤ, pos, List, [], ◌∷◌, Option, Some, None, Bool, ◌||◌}
 use Rattle.cat_types.specs.declared.arguments.StatArg.{StatArg}
 use Rattle.cat_types.specs.declared.named.NamedStat.{NamedStat}
 use Rattle.ms_structs.specs.declared.got.Got.{Got}
@@ -50,3 +50,7 @@ object_written stat =
 -- the struct that a column's statistics are written as
 unfoldable pub object_tree : NamedStat → Wire
 object_tree stat = Struct (fields_of (object_written stat))
+
+-- a column's statistics as whoever reads them would hand them in: of their type and moment nothing is kept
+abbrev pub handed_in_stat : NamedStat → StatArg
+handed_in_stat stat = record { col = Some stat.col; value = Some stat.rec.value }

@@ -5,6 +5,7 @@
 mod descs;
 mod doubles;
 mod flags;
+mod laws;
 mod longs;
 mod members;
 mod objects;
@@ -15,6 +16,7 @@ mod strings;
 pub use descs::{DescFields, read_column_statistics_desc, write_column_statistics_desc};
 pub use doubles::Double;
 pub use flags::{FlagFields, read_boolean_column_stats_data, write_boolean_column_stats_data};
+pub use laws::{last_member_counts, order_is_free, written_is_read};
 pub use longs::{LongFields, read_long_column_stats_data, write_long_column_stats_data};
 pub use members::{MemberFields, read_column_statistics_data, write_column_statistics_data};
 pub use objects::{ObjectFields, read_column_statistics_obj, write_column_statistics_obj};
