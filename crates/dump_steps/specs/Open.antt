@@ -5,6 +5,11 @@ use Rattle.dump_steps.specs.declared.open_dumps.DumpKind.{DumpKind}
 use Rattle.dump_steps.specs.declared.open_dumps.DumpKind.TheVariants.{Bootstrap, Incremental}
 use Rattle.dump_steps.specs.declared.open_dumps.OpenDump.{OpenDump}
 
+-- the open dumps in the order in which they were begun, and how many more have their memory already
+pub record Opened : Type 0 where
+  pub dumps : List OpenDump
+  pub spare : ℕ
+
 -- whether a dump is of a whole database
 abbrev pub is_bootstrap : DumpKind → Bool
 is_bootstrap (Bootstrap sealed) = true
