@@ -1,6 +1,6 @@
 -- The events of one database between two numbers, found place by place.
-use Rattle.std.proofs.Common.{◌≡◌, refl, sym, ap, subst, ◌∙◌, ℕ, zero, suc, ◌+◌, ◌-◌, ◌<◌, ◌≤◌, min, nat_le, nat_lt, List, [], ◌∷◌, ◌++◌, length, take, drop, get_or, Bool, true, false, ◌&&◌, cond, append_assoc, length-append, arith}
-use Rattle.std.proofs.lemmas.Bool.{le-ltb, lt-ltb}
+use Rattle.std.proofs.Common.{◌≡◌, refl, sym, ap, ◌∙◌, ℕ, zero, suc, ◌+◌, ◌-◌, ◌<◌, ◌≤◌, min, nat_le, nat_lt, List, [], ◌∷◌, ◌++◌, length, take, drop, get_or, Bool, true, false, ◌&&◌, cond, append_assoc, append-nil, length-append, arith}
+use Rattle.std.proofs.lemmas.Bool.{le-leb, le-ltb, lt-leb, lt-ltb}
 use Rattle.std.proofs.lemmas.List.{take_at, take-append-drop, take_all}
 use Rattle.std.proofs.lemmas.List.Elements.{filter-append, filter_more}
 use Rattle.cat_types.specs.declared.changes.Event.{Event}
@@ -17,9 +17,6 @@ and_false false c is = refl
 and_both : (b c : Bool) → b ≡ true → c ≡ true → (b && c) ≡ true
 and_both b c first second = rw first second
 
-le_is : (a b : ℕ) → a ≤ b → nat_le a b ≡ true
-le_is a b at_most = ?
-
 -- the number of the event at a place
 pub id_at : (k first : ℕ) (es : List Event) (d : Event) → AreNumbered first es → k < length es → (get_or es k d).id ≡ first + k
 id_at k first [] d numbered within = absurd (omega arith)
@@ -29,7 +26,7 @@ id_at (suc k) first (e ∷ es) d numbered within = omega (arith, id_at k (first 
 -- between the two numbers only the database counts
 within_both : (db : List ℕ) (born after end : ℕ) (e : Event) → after < e.id → e.id ≤ end → is_between db born after end e ≡ is_of db born e
 within_both db born after end e above below =
-    and_true (is_of db born e) (nat_lt after e.id && nat_le e.id end) (and_both _ _ (lt-ltb after e.id above) (le_is e.id end below))
+    and_true (is_of db born e) (nat_lt after e.id && nat_le e.id end) (and_both _ _ (lt-ltb after e.id above) (le-leb e.id end below))
 
 not_above : (db : List ℕ) (born after end : ℕ) (e : Event) → e.id ≤ after → is_between db born after end e ≡ false
 not_above db born after end e low =
@@ -37,7 +34,7 @@ not_above db born after end e low =
 
 not_below : (db : List ℕ) (born after end : ℕ) (e : Event) → end < e.id → is_between db born after end e ≡ false
 not_below db born after end e high =
-    and_false (is_of db born e) _ (and_false (nat_lt after e.id) _ ?)
+    and_false (is_of db born e) _ (and_false (nat_lt after e.id) _ (lt-leb e.id end high))
 
 -- none of those up to the first number counts
 pub none_before : (db : List ℕ) (born after end n first : ℕ) (es : List Event) → AreNumbered first es → n ≤ suc after - first → events_between db born after end (take n es) ≡ []
@@ -75,7 +72,14 @@ pub none_more : (db : List ℕ) (born after end at first : ℕ) (es : List Event
     events_between db born after end (take (at + 1) es) ≡ events_between db born after end (take at es)
 none_more db born after end at first es e numbered from upto same is =
     let counts : is_between db born after end (get_or es at e) ≡ false = test_at db born after end at first es e numbered from upto ∙ (ap (is_of db born) (sym same) ∙ is) in
-    filter_more (is_between db born after end) es at e (omega arith) ∙ rw counts ?
+    filter_more (is_between db born after end) es at e (omega arith) ∙ rw counts (append-nil _)
+
+-- what is pushed is what was found and the event
+pub added : (new old before found : List Event) (item e : Event) → new ≡ old ++ item ∷ [] → old ≡ before → item ≡ e → found ≡ before ++ e ∷ [] → new ≡ found
+added new old before found item e pushed so_far same more = rw (pushed, so_far, same, more) refl
+
+pub longer : (new old : List Event) (item : Event) → new ≡ old ++ item ∷ [] → length new ≡ length old + 1
+longer new old item pushed = ap length pushed ∙ length-append old (item ∷ [])
 
 -- an event that is left out shows that others follow
 abbrev pub IsCut : ℕ → List Event → List Event → Type 0
