@@ -1,5 +1,5 @@
 -- What follows from histories.
-use Rattle.std.specs.Prelude.{◌≡◌, ◌≢◌, ◌⊎◌, ◌↔◌, ℕ, ◌+◌, ◌≤◌, Bool, true, false, not, ◌&&◌, List, [], ◌∷◌, ◌++◌, length, Option, Some, None, option_to_list, IsSome, if◌then◌else◌}
+use Rattle.std.specs.Prelude.{◌≡◌, ◌≢◌, ◌⊎◌, ◌↔◌, ℕ, ◌+◌, ◌≤◌, ◌==◌, Bool, true, false, not, ◌&&◌, List, [], ◌∷◌, ◌++◌, length, Option, Some, None, option_to_list, IsSome, if◌then◌else◌}
 use Rattle.std.specs.Cmp.Lexicographic.{slice_cmp}
 use Rattle.std.specs.List.{AllByRecursion}
 use Rattle.std.specs.List.Sorted.{IsStrictlySortedBy}
@@ -16,7 +16,7 @@ use Rattle.cat_objects.specs.Parts.{PartList}
 use Rattle.cat_objects.specs.declared.held.HeldTable.{HeldTable}
 use Rattle.catalogue.specs.Polls.{poll_of}
 use Rattle.desk.specs.History.{Entry, Transition, took, reopened, Point, Start, MayFollow, events_at, events_from, next, point_after, point_of}
-use Rattle.desk.specs.State.{State, due, durable, event_of, is_refused, start, writes}
+use Rattle.desk.specs.State.{State, due, due_answer, durable, event_of, events_from_number, is_refused, start, writes}
 use Rattle.hms_outside.specs.Disks.{Lies}
 
 -- ---- a change and its event
@@ -31,17 +31,22 @@ abbrev pub Numbered : ℕ → List Event → Type 0
 Numbered before [] = Unit {0}
 Numbered before (e ∷ es) = (e.id ≡ before + 1) × Numbered (before + 1) es
 
--- these events lead from one state to another: its catalogue is what they make, it keeps them after those kept before, and its newest number is the last of theirs; its id and the first number stay, and the last number of a dump never falls
+-- what is still kept of events after the first kept number became this one: all of them where it is the same, and else those from it on
+abbrev pub still_kept : ℕ → ℕ → List Event → List Event
+still_kept old new events = if old == new then events else events_from_number new events
+
+-- these events lead from one state to another: its catalogue is what they make; it keeps, of those kept before and these, the ones from its first kept number on; its newest number is the last of theirs; its id stays, and neither its first kept number nor the last number of a dump falls
 pub record Leads (old : State) (events : List Event) (new : State) : Type 0 where
   pub catalogue : new.catalogue ≡ catalogue_after old.catalogue events
-  pub kept : new.events ≡ old.events ++ events
+  pub kept : new.events ≡ still_kept old.first new.first (old.events ++ events)
   pub numbered : Numbered old.newest events
   pub newest : new.newest ≡ old.newest + length events
   pub id : new.id ≡ old.id
-  pub first : new.first ≡ old.first
+  pub first : old.first ≤ new.first
+  pub bounded : (new.first ≡ old.first) ⊎ (new.first ≤ new.newest + 1)
   pub dumped : old.last_dump ≤ new.last_dump
 
--- A change and its event stand together: after every history, with openings among its transitions, the state is the one to which the history's events lead from its start.
+-- A change and its event stand together: after every history, with openings and trims among its transitions, the state is the one to which the history's events lead from its start.
 abbrev pub ChangesAndEventsStandTogether : Type 0
 ChangesAndEventsStandTogether = (s : Start) (history : List Transition) → Leads s.state (events_from (point_of s) history) (point_after (point_of s) history).state
 
@@ -111,6 +116,16 @@ OpeningsGiveTheDisks = (p : Point) (fault : ℕ) → (next p (reopened None faul
 abbrev pub OpenedIsDurable : Type 0
 OpenedIsDurable = (s : Start) (history : List Transition) (a : Option ℕ) (fault : ℕ)
     → durable (next (point_after (point_of s) history) (reopened a fault)).state ≡ (next (point_after (point_of s) history) (reopened a fault)).state
+
+-- Behind an opening no dump is open.
+abbrev pub OpeningsEndDumps : Type 0
+OpeningsEndDumps = (s : Start) (history : List Transition) (a : Option ℕ) (fault : ℕ) → (next (point_after (point_of s) history) (reopened a fault)).state.dumps ≡ []
+
+-- ---- what is due
+
+-- An answer that is due isn't one of a step that wasn't taken.
+abbrev pub DueStepsAreTaken : Type 0
+DueStepsAreTaken = (s : State) (caller : ℕ) (step : Step) → is_refused (due_answer s caller step) ≡ false
 
 -- ---- the names of databases and of tables
 

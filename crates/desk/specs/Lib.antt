@@ -4,4 +4,5 @@ pub mod History
 pub mod Entries
 pub mod Adds
 pub mod Scripts
+pub mod Walks
 pub mod Laws

@@ -3,10 +3,12 @@
 ghost use Rattle.desk.specs.Laws.{
   AllUnsettledAreFound,
   ChangesAndEventsStandTogether,
+  DueStepsAreTaken,
   NamesGoOnRising,
   NamesOfNewStoresRise,
   OnlyUnsettledAreFound,
   OpenedIsDurable,
+  OpeningsEndDumps,
   OpeningsGiveTheDisks,
   PartValuesGoOnRising,
   PartValuesOfNewStoresRise,
@@ -16,9 +18,9 @@ ghost use Rattle.desk.specs.Laws.{
   WritesWhereTheDisksChange,
 };
 
-/// After every history, with openings among its transitions, the catalogue is what the history's events
-/// make of the start's, and the state keeps exactly these events, numbered one after the other up to its
-/// newest number.
+/// After every history, with openings and trims among its transitions, the catalogue is what the history's
+/// events make of the start's, and the state keeps exactly those of these events that no trim took off,
+/// numbered one after the other up to its newest number.
 pub fn changes_and_events_stand_together()
     ensures { ChangesAndEventsStandTogether }
 {}
@@ -39,10 +41,16 @@ pub fn steps_write_where_the_disks_change()
 {}
 
 /// An opening that finds no step done gives what is on the disks, and after any opening all of the state
-/// is on them.
+/// is on them, and no dump is open.
 pub fn openings_give_the_disks()
     ensures nothing_found { OpeningsGiveTheDisks }
     ensures durable { OpenedIsDurable }
+    ensures no_dumps { OpeningsEndDumps }
+{}
+
+/// No due answer tells that a step wasn't taken.
+pub fn due_steps_are_taken()
+    ensures { DueStepsAreTaken }
 {}
 
 /// The names of the databases rise strictly after every history of a new store, and of any start at which

@@ -16,7 +16,7 @@ pub use desk_trait::Desk;
 pub use entries::{CallerStep, Outcome};
 pub use foreign::Foreign;
 pub use laws::{
-    changes_and_events_stand_together, names_rise, openings_find_refused_steps,
+    changes_and_events_stand_together, due_steps_are_taken, names_rise, openings_find_refused_steps,
     openings_give_the_disks, steps_write_where_the_disks_change, table_names_rise,
 };
 pub use local::LocalDesk;

@@ -69,6 +69,11 @@ answered_in (Some dump) allows cat finds =
     then (if is_born dump.born (database cat dump.db) then finds dump else answer.DumpRefused (DatabaseGone dump.born))
     else answer.NotOpen
 
+-- whether a step of this open dump is taken
+abbrev pub is_taken_in : Option OpenDump → (DumpKind → Bool) → Catalogue → Bool
+is_taken_in None allows cat = false
+is_taken_in (Some dump) allows cat = allows dump.kind && is_born dump.born (database cat dump.db)
+
 -- the next table as it is at this event, where there is one
 abbrev pub told_table : ℕ → Option (List ℕ × HeldTable) → Answer
 told_table newest None = answer.NoTable
