@@ -60,7 +60,7 @@ pub fn first_item(
 
 /// How the beginning of a dump is told, with the store's id and the first item. It takes no memory.
 pub fn told_begun(id: [u8; 16], dump: &OpenDump, item: Option<Item>) -> Answer
-    ensures { result ≡ told_begun id.entry dump.now item }
+    ensures { result ≡ told_begun id dump.now item }
 {
     Answer::Began {
         dump: dump.number,

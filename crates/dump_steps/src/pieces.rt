@@ -86,7 +86,7 @@ fn told_parts(
     born: u64,
     entries: Range<'_, Texts, PartRec>,
 ) -> Result<Answer, NoMemory>
-    ensures { IfOk result (λ answer. answer ≡ told_parts (map (part_item newest table.now born) entries)) }
+    ensures { IfOk result (λ answer. answer ≡ told_parts (map (part_item newest table.now born) entries.entry)) }
 {
     let mut parts = ListOf::new(alloc);
     for (values, rec) in entries {
