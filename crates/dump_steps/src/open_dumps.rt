@@ -123,11 +123,7 @@ impl OpenDumps {
         ensures dumps { self.new.dumps ≡ with_sealed caller number end self.old.dumps }
         ensures spare { self.new.spare ≡ self.old.spare }
     {
-        for dump in &mut self.dumps {
-            if dump.is_dump(caller, number) {
-                dump.seal_at(end);
-            }
-        }
+        seal_among(&mut self.dumps, caller, number, end);
     }
 
     /// The names of the databases of which whole dumps are open, one for each dump.
@@ -152,5 +148,16 @@ impl OpenDumps {
             least = least.min(dump.begin);
         }
         least
+    }
+}
+
+// Seals the dump of this caller with this number.
+fn seal_among(dumps: &mut [OpenDump], caller: u32, number: u64, end: u64)
+    ensures { dumps.new ≡ with_sealed caller number end dumps.old }
+{
+    for dump in dumps.iter_mut() {
+        if dump.is_dump(caller, number) {
+            dump.seal_at(end);
+        }
     }
 }
