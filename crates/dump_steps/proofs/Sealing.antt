@@ -24,9 +24,9 @@ abbrev pub sealed_if : ℕ → ℕ → ℕ → OpenDump → OpenDump
 sealed_if caller number end dump = if is_dump caller number dump then sealed_at end dump else dump
 
 pub sealed_then : (caller number end : ℕ) (x at new : OpenDump) (b : Bool) → x ≡ at → b ≡ is_dump caller number at → b ≡ true → new ≡ sealed_at end at → new ≡ sealed_if caller number end x
-sealed_then caller number end x at new b same is yes sealed =
-    sealed ∙ (ap (λ (t : Bool). if t then sealed_at end at else at) (sym yes ∙ is) ∙ ap (sealed_if caller number end) (sym same))
+sealed_then caller number end x at new b same is holds sealed =
+    sealed ∙ (ap (λ (t : Bool). if t then sealed_at end at else at) (sym holds ∙ is) ∙ ap (sealed_if caller number end) (sym same))
 
 pub sealed_else : (caller number end : ℕ) (x at : OpenDump) (b : Bool) → x ≡ at → b ≡ is_dump caller number at → b ≡ false → at ≡ sealed_if caller number end x
-sealed_else caller number end x at b same is no =
-    ap (λ (t : Bool). if t then sealed_at end at else at) (sym no ∙ is) ∙ ap (sealed_if caller number end) (sym same)
+sealed_else caller number end x at b same is fails =
+    ap (λ (t : Bool). if t then sealed_at end at else at) (sym fails ∙ is) ∙ ap (sealed_if caller number end) (sym same)
