@@ -1,7 +1,7 @@
 -- A list whose elements are changed one after the other, in place.
-use Rattle.std.proofs.Common.{◌≡◌, refl, sym, ap, ◌∙◌, ℕ, zero, suc, ◌+◌, ◌<◌, List, [], ◌∷◌, ◌++◌, length, map, take, drop, get_or, Bool, true, false, add-one, arith}
+use Rattle.std.proofs.Common.{◌≡◌, sym, ap, ◌∙◌, ℕ, zero, suc, ◌+◌, ◌<◌, List, [], ◌∷◌, ◌++◌, length, map, take, drop, get_or, Bool, true, false, add-one, arith}
 use Rattle.std.specs.Prelude.{slice_set, if◌then◌else◌}
-use Rattle.dump_steps.specs.Open.{is_dump, sealed_at, with_sealed}
+use Rattle.dump_steps.specs.Open.{is_dump, sealed_at}
 use Rattle.dump_steps.specs.declared.open_dumps.OpenDump.{OpenDump}
 
 module _ {X : Type 0} (f : X → X) where

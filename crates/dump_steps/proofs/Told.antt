@@ -1,5 +1,5 @@
 -- Items that are told, the first of them and whether others follow.
-use Rattle.std.proofs.Common.{◌≡◌, refl, sym, ap, ◌∙◌, ℕ, ◌≤◌, List, [], ◌∷◌, ◌++◌, length, take, nat_lt, Bool, true, false, append_assoc, append-nil, length-append, arith}
+use Rattle.std.proofs.Common.{◌≡◌, refl, sym, ap, ◌∙◌, ◌≤◌, List, [], ◌∷◌, ◌++◌, length, take, nat_lt, true, false, append-nil, length-append, arith}
 use Rattle.std.proofs.lemmas.Bool.{le-ltb, lt-ltb}
 use Rattle.std.proofs.lemmas.List.{take_at, take_all}
 use Rattle.cat_types.specs.declared.items.Item.{Item}

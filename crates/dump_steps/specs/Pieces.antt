@@ -1,5 +1,5 @@
 -- What the steps of a dump are answered.
-use Rattle.std.specs.Prelude.{ℕ, ◌+◌, ◌==◌, nat_le, nat_lt, Bool, ◌&&◌, List, [], ◌∷◌, ◌++◌, length, map, take, Option, None, Some, bytes_eq, if◌then◌else◌}
+use Rattle.std.specs.Prelude.{ℕ, ◌+◌, ◌==◌, nat_le, nat_lt, Bool, ◌&&◌, List, [], length, map, take, Option, None, Some, if◌then◌else◌}
 use Rattle.std.specs.Cmp.Lexicographic.{slice_cmp}
 use Rattle.std.specs.List.{filter}
 use Rattle.std.specs.Ordering.{nat_cmp}
@@ -22,7 +22,6 @@ use Rattle.dump_steps.specs.declared.open_dumps.DumpKind.TheVariants.{Bootstrap,
 use Rattle.dump_steps.specs.declared.open_dumps.OpenDump.{OpenDump}
 use Rattle.dump_steps.specs.declared.taking.Takes.{Takes}
 use Rattle.dump_steps.specs.declared.taking.Takes.TheVariants.{Events, Objects}
-use Rattle.cat_values.specs.declared.records.DbRec.{DbRec}
 use Rattle.cat_values.specs.declared.records.PartRec.{PartRec}
 use Rattle.std.specs.Prelude.{ℤ, false}
 

@@ -1,5 +1,5 @@
 -- Which events a dump is asked for, and for what it is refused.
-use Rattle.std.specs.Prelude.{ℕ, ◌+◌, ◌-◌, ◌^◌, ◌==◌, nat_lt, min, ℤ, pos, nat_abs, int_lt, Bool, true, false, ◌||◌, ◌&&◌, Option, None, Some, is_some, if◌then◌else◌}
+use Rattle.std.specs.Prelude.{ℕ, ◌+◌, ◌-◌, ◌^◌, ◌==◌, nat_lt, min, ℤ, pos, nat_abs, int_lt, Bool, false, ◌||◌, ◌&&◌, Option, None, Some, is_some, if◌then◌else◌}
 use Rattle.cat_objects.specs.declared.held.HeldDb.{HeldDb}
 use Rattle.cat_types.specs.declared.steps.DumpRefusal.{DumpRefusal}
 use Rattle.cat_types.specs.declared.steps.DumpRefusal.TheVariants.{BadRange, DatabaseGone, MissingEvents, NoSuchDb, UsedUp}

@@ -71,8 +71,10 @@ pub fn next_parts(
     ensures { IfOk result (λ answer. answer ≡ next_parts cat.now newest table.now born (option_copied after.entry) dump.now) }
 {
     match cat.held_table(&dump.db, table) {
-        Some(held) if held.born == born => told_parts(alloc, newest, table, born, held.parts.above(after)),
-        _ => Ok(Answer::Parts {
+        Some(held) if held.born == born => {
+            told_parts(alloc, newest, table, born, held.parts.above(after))
+        }
+        Some(_) | None => Ok(Answer::Parts {
             parts: ListOf::new(alloc),
             more: false,
         }),

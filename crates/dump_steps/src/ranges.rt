@@ -1,6 +1,6 @@
 //! Which events a dump is asked for, and for what it is refused.
 
-ghost use Rattle.std.specs.Prelude.{◌≡◌};
+ghost use Rattle.std.specs.Prelude.{◌≡◌, ◌<◌, IsNone};
 ghost use Rattle.std.specs.Option.{option_copied};
 ghost use Rattle.dump_steps.specs.Ranges.{begin_of, begin_refusal, end_of, is_bad_from, is_bad_limit, is_bad_range, is_bad_to, is_missing, is_too_early, is_used_up, limited, range_refusal, upto_of};
 
@@ -26,7 +26,8 @@ pub fn begin_refusal(
     last: u64,
     asked: Asked,
 ) -> Option<DumpRefusal>
-    ensures { result ≡ begin_refusal (option_copied held.entry) first newest last asked }
+    ensures first_broken { result ≡ begin_refusal (option_copied held.entry) first newest last asked }
+    ensures numbers_left { IsNone result → last < 18446744073709551615 }
 {
     match held {
         Some(held) => range_refusal(held.born, first, newest, last, asked),
@@ -34,14 +35,9 @@ pub fn begin_refusal(
     }
 }
 
-fn range_refusal(
-    born: u64,
-    first: u64,
-    newest: u64,
-    last: u64,
-    asked: Asked,
-) -> Option<DumpRefusal>
-    ensures { result ≡ range_refusal born first newest last asked }
+fn range_refusal(born: u64, first: u64, newest: u64, last: u64, asked: Asked) -> Option<DumpRefusal>
+    ensures first_broken { result ≡ range_refusal born first newest last asked }
+    ensures numbers_left { IsNone result → last < 18446744073709551615 }
 {
     if is_bad_range(newest, asked) {
         return Some(DumpRefusal::BadRange);
@@ -63,7 +59,9 @@ fn is_bad_range(newest: u64, asked: Asked) -> bool
     ensures { result ≡ is_bad_range newest asked.from asked.to asked.limit }
 {
     match asked.from {
-        Some(from) => is_bad_from(newest, from) || is_bad_to(from, asked.to) || is_bad_limit(asked.limit),
+        Some(from) => is_bad_from(newest, from)
+            || is_bad_to(from, asked.to)
+            || is_bad_limit(asked.limit),
         None => asked.to.is_some() || asked.limit.is_some(),
     }
 }

@@ -1,11 +1,11 @@
 //! Whether a step of a dump can be taken.
 
-ghost use Rattle.std.specs.Prelude.{◌≡◌, IfErr, IfOk};
+ghost use Rattle.std.specs.Prelude.{◌≡◌, false, true, IfErr, IfOk, OnErr, OnOk};
 ghost use Rattle.cat_objects.specs.Changes.{is_born};
 ghost use Rattle.cat_objects.specs.Catalogue.{database};
 ghost use Rattle.cat_types.specs.declared.steps.Answer.{Answer};
 ghost use Rattle.dump_steps.specs.Open.{open_dump, takes_events, takes_objects};
-ghost use Rattle.dump_steps.specs.Pieces.{allowed, answered_in};
+ghost use Rattle.dump_steps.specs.Pieces.{allowed, answered_in, is_taken_in};
 ghost use Rattle.dump_steps.specs.declared.open_dumps.OpenDump.{OpenDump};
 
 use crate::{DumpKind, OpenDump, OpenDumps};
@@ -31,6 +31,8 @@ pub fn dump_for<'a>(
     cat: &Cat,
 ) -> Result<&'a OpenDump, Answer>
     ensures found { IfOk result (λ dump. (finds : OpenDump → Answer) → answered_in (open_dump caller number dumps.now.dumps) (allowed takes) cat.now finds ≡ finds dump.now) }
+    ensures taken { OnOk result (is_taken_in (open_dump caller number dumps.now.dumps) (allowed takes) cat.now ≡ true) }
+    ensures not_taken { OnErr result (is_taken_in (open_dump caller number dumps.now.dumps) (allowed takes) cat.now ≡ false) }
     ensures refused { IfErr result (λ answer. (finds : OpenDump → Answer) → answered_in (open_dump caller number dumps.now.dumps) (allowed takes) cat.now finds ≡ answer) }
 {
     let Some(dump) = dumps.find(caller, number) else {

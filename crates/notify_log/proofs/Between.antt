@@ -95,9 +95,9 @@ pub left_out : (db : List ℕ) (born after end at first max : ℕ) (es found : L
 left_out db born after end at first max es found e numbered from upto same is so_far full =
     let p = is_between db born after end in
     let whole : events_between db born after end es ≡ (found ++ e ∷ []) ++ events_between db born after end (drop (at + 1) es) =
-      ap (events_between db born after end) (sym (take-append-drop (at + 1) es))
-      ∙ (filter-append (is_between db born after end) (take (at + 1) es) (drop (at + 1) es)
-      ∙ ap (λ front. front ++ events_between db born after end (drop (at + 1) es)) (one_more db born after end at first es e numbered from upto same is ∙ ap (λ front. front ++ e ∷ []) (sym so_far))) in
+    ap (events_between db born after end) (sym (take-append-drop (at + 1) es))
+    ∙ (filter-append (is_between db born after end) (take (at + 1) es) (drop (at + 1) es)
+    ∙ ap (λ front. front ++ events_between db born after end (drop (at + 1) es)) (one_more db born after end at first es e numbered from upto same is ∙ ap (λ front. front ++ e ∷ []) (sym so_far))) in
     cut_by max found (events_between db born after end (drop (at + 1) es)) _ e full whole
 
 -- and where none was left out all were found

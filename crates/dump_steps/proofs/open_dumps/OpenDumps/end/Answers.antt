@@ -1,4 +1,4 @@
-use Rattle.std.proofs.Common.{rules, sym, ap, ◌∙◌}
+use Rattle.std.proofs.Common.{rules, ap, ◌∙◌}
 use Rattle.std.proofs.lemmas.Fn.{filter_same}
 use Rattle.dump_steps.specs.Open.{without_dump}
 use Rattle.dump_steps.proofs.open_dumps.OpenDumps.end.Goals as goal

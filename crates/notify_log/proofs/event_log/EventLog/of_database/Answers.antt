@@ -38,13 +38,13 @@ loop-at-preserved c =
 cut : (c : goal.Then-len-max) → IsCut c.args.max c.loop-at.events (events_between c.args.db.now c.args.born c.args.after c.args.end c.args.self.now.events)
 cut c =
     left_out c.args.db.now c.args.born c.args.after c.args.end c.loop-at.at c.args.self.now.first c.args.max c.args.self.now.events c.loop-at.events c.index-event.result.now
-      (subst (λ k. AreNumbered k.first k.events) c.self.view_is c.self.invariant.0)
-      (omega (arith, c.count_upto-at.ensures.count, c.loop-at.auto.at))
-      (omega (arith, c.count_upto-at-end.ensures.count, c.loop-at-test.true))
-      (subst (λ k. c.index-event.result.now ≡ get_or k.events c.loop-at.at c.index-event.result.now) c.self.view_is c.index-event.ensures)
-      (sym c.is_of.ensures ∙ c.if-is_of.true)
-      c.loop-at.invariant.found
-      (sym c.len.ensures.count ∙ c.if-len-max.true)
+    (subst (λ k. AreNumbered k.first k.events) c.self.view_is c.self.invariant.0)
+    (omega (arith, c.count_upto-at.ensures.count, c.loop-at.auto.at))
+    (omega (arith, c.count_upto-at-end.ensures.count, c.loop-at-test.true))
+    (subst (λ k. c.index-event.result.now ≡ get_or k.events c.loop-at.at c.index-event.result.now) c.self.view_is c.index-event.ensures)
+    (sym c.is_of.ensures ∙ c.if-is_of.true)
+    c.loop-at.invariant.found
+    (sym c.len.ensures.count ∙ c.if-len-max.true)
 
 pub returns-then-len-max-clause-events : goal.returns-then-len-max-clause-events
 returns-then-len-max-clause-events c = (cut c).0
@@ -55,10 +55,10 @@ returns-then-len-max-clause-more c = (cut c).1
 whole : (c : goal.After-loop-at) → IsWhole c.args.max c.loop-at.events (events_between c.args.db.now c.args.born c.args.after c.args.end c.args.self.now.events)
 whole c =
     found_all c.args.max c.loop-at.events _
-      (c.loop-at.invariant.found ∙ all_before c.args.db.now c.args.born c.args.after c.args.end c.loop-at.at c.args.self.now.first c.args.self.now.events
-        (subst (λ k. AreNumbered k.first k.events) c.self.view_is c.self.invariant.0)
-        (omega (arith, c.count_upto-at-end.ensures.count, c.loop-at-test.false)))
-      c.loop-at.invariant.few
+    (c.loop-at.invariant.found ∙ all_before c.args.db.now c.args.born c.args.after c.args.end c.loop-at.at c.args.self.now.first c.args.self.now.events
+    (subst (λ k. AreNumbered k.first k.events) c.self.view_is c.self.invariant.0)
+    (omega (arith, c.count_upto-at-end.ensures.count, c.loop-at-test.false)))
+    c.loop-at.invariant.few
 
 pub returns-clause-events : goal.returns-clause-events
 returns-clause-events c = (whole c).0
