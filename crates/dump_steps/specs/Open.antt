@@ -1,9 +1,14 @@
 -- Open dumps.
-use Rattle.std.specs.Prelude.{ℕ, ◌+◌, ◌==◌, nat_lt, min, max, ℤ, pos, nat_abs, int_lt, Bool, true, false, not, ◌&&◌, List, [], ◌∷◌, map, Option, None, Some, if◌then◌else◌}
+use Rattle.std.specs.Prelude.{ℕ, ◌+◌, ◌==◌, min, max, ℤ, pos, nat_abs, int_lt, Bool, true, false, not, ◌&&◌, List, [], ◌∷◌, map, Option, if◌then◌else◌}
 use Rattle.std.specs.List.{filter, find}
 use Rattle.dump_steps.specs.declared.open_dumps.DumpKind.{DumpKind}
 use Rattle.dump_steps.specs.declared.open_dumps.DumpKind.TheVariants.{Bootstrap, Incremental}
 use Rattle.dump_steps.specs.declared.open_dumps.OpenDump.{OpenDump}
+
+-- the open dumps in the order in which they were begun, and how many more have their memory already
+pub record Opened : Type 0 where
+  pub dumps : List OpenDump
+  pub spare : ℕ
 
 -- whether a dump is of a whole database
 abbrev pub is_bootstrap : DumpKind → Bool

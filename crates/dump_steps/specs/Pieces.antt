@@ -1,5 +1,5 @@
 -- What the steps of a dump are answered.
-use Rattle.std.specs.Prelude.{ℕ, ◌+◌, ◌==◌, nat_le, nat_lt, Bool, ◌&&◌, List, [], ◌∷◌, ◌++◌, length, map, take, Option, None, Some, bytes_eq, if◌then◌else◌}
+use Rattle.std.specs.Prelude.{ℕ, ◌+◌, ◌==◌, nat_le, nat_lt, Bool, ◌&&◌, List, [], length, map, take, Option, None, Some, if◌then◌else◌}
 use Rattle.std.specs.Cmp.Lexicographic.{slice_cmp}
 use Rattle.std.specs.List.{filter}
 use Rattle.std.specs.Ordering.{nat_cmp}
@@ -20,7 +20,8 @@ use Rattle.dump_steps.specs.Ranges.{Asked, begin_of, end_of}
 use Rattle.dump_steps.specs.declared.open_dumps.DumpKind.{DumpKind}
 use Rattle.dump_steps.specs.declared.open_dumps.DumpKind.TheVariants.{Bootstrap, Incremental}
 use Rattle.dump_steps.specs.declared.open_dumps.OpenDump.{OpenDump}
-use Rattle.cat_values.specs.declared.records.DbRec.{DbRec}
+use Rattle.dump_steps.specs.declared.taking.Takes.{Takes}
+use Rattle.dump_steps.specs.declared.taking.Takes.TheVariants.{Events, Objects}
 use Rattle.cat_values.specs.declared.records.PartRec.{PartRec}
 use Rattle.std.specs.Prelude.{ℤ, false}
 
@@ -53,6 +54,11 @@ abbrev pub told_begun : List ℕ → OpenDump → Option Item → Answer
 told_begun id dump first = answer.Began dump.number id dump.born dump.begin dump.end first
 
 -- ---- the steps after it
+
+-- which dumps such a step can come next in, by their kind
+abbrev pub allowed : Takes → (DumpKind → Bool)
+allowed Objects = takes_objects
+allowed Events = takes_events
 
 -- the answer to a step of this open dump: none is open; or the step can't come next in it; or its database is gone, or another one; or what the step finds
 abbrev pub answered_in : Option OpenDump → (DumpKind → Bool) → Catalogue → (OpenDump → Answer) → Answer

@@ -1,14 +1,9 @@
 -- Which events a dump is asked for, and for what it is refused.
-use Rattle.std.specs.Prelude.{ℕ, ◌+◌, ◌-◌, ◌^◌, ◌==◌, nat_lt, min, ℤ, pos, nat_abs, int_lt, Bool, true, false, ◌||◌, ◌&&◌, Option, None, Some, is_some, if◌then◌else◌}
+use Rattle.std.specs.Prelude.{ℕ, ◌+◌, ◌-◌, ◌^◌, ◌==◌, nat_lt, min, ℤ, pos, nat_abs, int_lt, Bool, false, ◌||◌, ◌&&◌, Option, None, Some, is_some, if◌then◌else◌}
 use Rattle.cat_objects.specs.declared.held.HeldDb.{HeldDb}
 use Rattle.cat_types.specs.declared.steps.DumpRefusal.{DumpRefusal}
 use Rattle.cat_types.specs.declared.steps.DumpRefusal.TheVariants.{BadRange, DatabaseGone, MissingEvents, NoSuchDb, UsedUp}
-
--- what a dump is asked for: the events after `from`, or all of a database where there is none; up to `to`; and so many numbers at most
-pub record Asked : Type 0 where
-  pub from : Option ℤ
-  pub to : Option ℤ
-  pub limit : Option ℤ
+pub use Rattle.dump_steps.specs.declared.ranges.Asked.{Asked}
 
 -- whether the last number lies below the one that the range begins after
 abbrev pub is_bad_to : ℤ → Option ℤ → Bool
@@ -20,10 +15,14 @@ abbrev pub is_bad_limit : Option ℤ → Bool
 is_bad_limit None = false
 is_bad_limit (Some limit) = int_lt limit (pos 1)
 
+-- whether no range begins after this number: it is negative, or above the newest event
+abbrev pub is_bad_from : ℕ → ℤ → Bool
+is_bad_from newest from = int_lt from (pos 0) || int_lt (pos newest) from
+
 -- whether a range can't be asked for: it has an end or a limit without a begin; or its begin is negative or above the newest event; or its end lies below its begin; or its limit is below 1
 abbrev pub is_bad_range : ℕ → Option ℤ → Option ℤ → Option ℤ → Bool
 is_bad_range newest None to limit = is_some to || is_some limit
-is_bad_range newest (Some from) to limit = int_lt from (pos 0) || (int_lt (pos newest) from || (is_bad_to from to || is_bad_limit limit))
+is_bad_range newest (Some from) to limit = is_bad_from newest from || (is_bad_to from to || is_bad_limit limit)
 
 -- whether events are asked for that lie before the database was made
 abbrev pub is_too_early : ℕ → Option ℤ → Bool

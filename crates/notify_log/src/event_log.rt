@@ -1,11 +1,11 @@
 //! The log of events.
 
-ghost use Rattle.std.specs.Prelude.{◌≡◌, ℕ, ◌+◌, ◌-◌, ◌<◌, ◌≤◌, ◌^◌, suc, min, max, [], ◌∷◌, ◌++◌, length, take, drop, IfOk, IfErr, OnOk, OnErr, IsOk};
+ghost use Rattle.std.specs.Prelude.{◌≡◌, ℕ, ◌+◌, ◌-◌, ◌<◌, ◌≤◌, ◌^◌, suc, min, max, nat_lt, [], ◌∷◌, ◌++◌, length, take, drop, IfOk, IfErr, OnOk, OnErr, IsOk};
 ghost use Rattle.std.specs.Option.{option_copied};
 ghost use Rattle.std.specs.VecDeque.{deque_capacity, deque_len};
-ghost use Rattle.notify_log.specs.Logs.{AreNumbered, event_with, events_above, next_number};
+ghost use Rattle.notify_log.specs.Logs.{AreNumbered, event_with, events_above, events_between, is_of, next_number};
 
-use cat_types::{Event, Events, LIST_END, ListOf, NoMemory, TryCopy};
+use cat_types::{Event, Events, LIST_END, ListOf, NoMemory, Text, TryCopy};
 use std::alloc::Global;
 use std::collections::VecDeque;
 use std::marker::Model;
@@ -105,6 +105,33 @@ impl EventLog {
         self.copies(start, left)
     }
 
+    /// Copies of the kept events that change the database with this name and born, with numbers above
+    /// `after` and at most `end`, in order, `max` of them at most; and whether others follow. It looks at
+    /// no event outside these numbers, and at none after the first that it leaves out.
+    pub fn of_database(
+        &self,
+        db: &Text,
+        born: u64,
+        after: u64,
+        end: u64,
+        max: u64,
+    ) -> Result<(Events, bool), NoMemory>
+        ensures events { IfOk result (λ found. found.0 ≡ take max (events_between db.now born after end self.now.events)) }
+        ensures more { IfOk result (λ found. found.1 ≡ nat_lt max (length (events_between db.now born after end self.now.events))) }
+    {
+        let mut events = ListOf::new(self.alloc);
+        for at in self.count_upto(after)..self.count_upto(end) {
+            let event = &self.events[at];
+            if is_of(event, db, born) {
+                if events.len() as u64 == max {
+                    return Ok((events, true));
+                }
+                events.push(event.copy(self.alloc)?)?;
+            }
+        }
+        Ok((events, false))
+    }
+
     /// Takes off the kept events up to this number, which must be below the next one. No memory is
     /// given back, so that what was reserved stays so.
     pub fn trim(&mut self, upto: u64)
@@ -147,6 +174,13 @@ impl EventLog {
         }
         ListOf::from_vec(events)
     }
+}
+
+// Whether an event changes the database with this name and born.
+fn is_of(event: &Event, db: &Text, born: u64) -> bool
+    ensures { result ≡ is_of db.now born event.now }
+{
+    db.cmp(&event.change.db).is_eq() && event.change.db_born == born
 }
 
 // Takes off so many events from the front.
