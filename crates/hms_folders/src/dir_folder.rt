@@ -20,7 +20,8 @@ pub struct DirFolder<'a, R: Files<File = File> + Alloc<A = Global>> {
 }
 
 impl<'a, R: Files<File = File> + Alloc<A = Global>> DirFolder<'a, R> {
-    /// The directory with this path; where there is none yet, it is made when a file is put.
+    /// The directory with this path; where there is none yet, it is made when a file is put. The
+    /// empty path is no directory: each call of such a folder fails.
     pub fn new(rt: &'a R, path: String) -> DirFolder<'a, R> {
         DirFolder {
             rt,
@@ -55,6 +56,9 @@ impl<'a, R: Files<File = File> + Alloc<A = Global>> Folder for DirFolder<'a, R> 
     ghost faults = { λ f. f.faults };
 
     fn put(&mut self, name: &str, bytes: &[u8]) -> Result<(), Outage> {
+        if self.path.is_empty() {
+            return Err(self.failed(ErrorKind::NotFound));
+        }
         let Ok(path) = self.path_of(name) else {
             return Err(Outage::NoMemory);
         };
@@ -65,6 +69,9 @@ impl<'a, R: Files<File = File> + Alloc<A = Global>> Folder for DirFolder<'a, R> 
     }
 
     fn get(&mut self, name: &str) -> Result<Option<Bytes>, Outage> {
+        if self.path.is_empty() {
+            return Err(self.failed(ErrorKind::NotFound));
+        }
         let Ok(path) = self.path_of(name) else {
             return Err(Outage::NoMemory);
         };
