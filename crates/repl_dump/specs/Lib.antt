@@ -1,0 +1,4 @@
+pub mod Opened
+pub mod Files
+pub mod Turns
+pub mod Dumps

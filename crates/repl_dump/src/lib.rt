@@ -1,0 +1,12 @@
+//! Dumps of a database: a caller asks for it step by step, while others take their turns, and writes
+//! what it is told into a folder.
+#![tactic(auto)]
+
+mod dumping;
+mod failure;
+mod place;
+mod steps;
+mod turns;
+mod writer;
+
+pub use dumping::{DumpAnswer, dump};
