@@ -1,3 +1,4 @@
+pub mod Fitting
 pub mod Maps
 pub mod Editing
 pub mod PlacedBack

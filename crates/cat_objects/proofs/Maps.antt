@@ -168,6 +168,11 @@ pub first_found : {X : Type 0} (test : X → Bool) (xs : List X) → slice_get (
 first_found test [] = refl
 first_found test (x ∷ xs) = passing_by (test x) x (filter (λ y. test y && true) xs) (find test xs) (first_found test xs)
 
+-- where each passes, all are left
+pub all_pass : {X : Type 0} (xs : List X) → filter (λ x. true) xs ≡ xs
+all_pass [] = refl
+all_pass {X} (x ∷ xs) = ap (λ (l : List X). x ∷ l) (all_pass xs)
+
 -- what an iterator gives next is the first of what it has left
 pub next_first : {A X : Type 0} (shows : A → X) (r : Option A) (left after : List X) → MatchOption r ((left ≡ []) × (after ≡ [])) (λ x. left ≡ shows x ∷ after) → option_map shows r ≡ slice_get left 0
 next_first shows None left after is = sym (ap (λ l. slice_get l 0) is.0)

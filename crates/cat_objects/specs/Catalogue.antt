@@ -6,6 +6,7 @@ use Rattle.std.specs.Map.{lookup, set_value}
 use Rattle.std.specs.Ordering.{nat_cmp}
 use Rattle.cat_values.specs.declared.records.DbRec.{DbRec}
 use Rattle.cat_values.specs.declared.records.PartRec.{PartRec}
+use Rattle.cat_values.specs.declared.records.TableRec.{TableRec}
 use Rattle.cat_objects.specs.Parts.{PartList, at_values}
 use Rattle.cat_objects.specs.declared.held.HeldDb.{HeldDb}
 use Rattle.cat_objects.specs.declared.held.HeldTable.{HeldTable}
@@ -60,6 +61,14 @@ table cat db name = at_name name (tables_of (database cat db))
 
 abbrev pub has_table : Catalogue → List ℕ → List ℕ → Bool
 has_table cat db name = is_some (table cat db name)
+
+-- a database as it is shown: its name, its born and its record
+abbrev pub shown_db : List ℕ × HeldDb → List ℕ × ℕ × DbRec
+shown_db entry = (entry.0, entry.1.born, entry.1.rec)
+
+-- a table as it is shown: its name, its born and its record
+abbrev pub shown_table : List ℕ × HeldTable → List ℕ × ℕ × TableRec
+shown_table entry = (entry.0, entry.1.born, entry.1.rec)
 
 -- the partitions of a table, and none of one that isn't there
 abbrev pub parts_of : Option HeldTable → PartList

@@ -1,4 +1,5 @@
 pub mod Catalogue
 pub mod Changes
+pub mod Lawful
 pub mod Parts
 pub mod Placing

@@ -2,9 +2,9 @@
 use Rattle.std.specs.Prelude.{ℕ, Bool, List, Option, None, Some, is_some, filter, if◌then◌else◌}
 use Rattle.std.specs.BTreeMap.{insert_entry, is_at}
 use Rattle.std.specs.Cmp.Lexicographic.{slice_cmp}
-use Rattle.std.specs.List.{find, slice_get}
 use Rattle.std.specs.Map.{lookup, remove_entry, set_value}
 use Rattle.std.specs.Ordering.{is_le, is_lt, nat_cmp}
+use Rattle.cat_values.specs.Maps as maps
 use Rattle.cat_values.specs.declared.records.PartRec.{PartRec}
 
 -- partitions, each at its values
@@ -33,8 +33,12 @@ moved_part values to rec parts = without_part values (put_part to rec parts)
 
 -- the first partition whose values are above these, or the first of all
 abbrev pub first_after : Option (List (List ℕ)) → PartList → Option (List (List ℕ) × PartRec)
-first_after None parts = slice_get parts 0
-first_after (Some values) parts = find (λ entry. is_lt (slice_cmp (slice_cmp nat_cmp) values entry.0)) parts
+first_after after parts = maps.first_after (slice_cmp (slice_cmp nat_cmp)) after parts
+
+-- the partitions whose values are above these, or all of them
+abbrev pub parts_above : Option (List (List ℕ)) → PartList → PartList
+parts_above None parts = parts
+parts_above (Some values) parts = filter (λ entry. is_lt (slice_cmp (slice_cmp nat_cmp) values entry.0)) parts
 
 -- the partitions whose values aren't below these
 abbrev pub parts_from : List (List ℕ) → PartList → PartList

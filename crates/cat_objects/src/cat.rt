@@ -1,10 +1,13 @@
 //! The catalogue's databases and their tables.
 
 ghost use Rattle.std.specs.Prelude.{◌≡◌, IfOk, length};
+ghost use Rattle.std.specs.Cmp.Lexicographic.{slice_cmp};
 ghost use Rattle.std.specs.Map.{keys_of};
 ghost use Rattle.std.specs.Option.{option_copied, option_map};
-ghost use Rattle.cat_objects.specs.Catalogue.{database, has_database, has_part, new_catalogue, part, parts_of, table, tables_of};
-ghost use Rattle.cat_objects.specs.Parts.{first_after};
+ghost use Rattle.std.specs.Ordering.{nat_cmp};
+ghost use Rattle.cat_objects.specs.Catalogue.{database, has_database, has_part, new_catalogue, part, parts_of, shown_db, shown_table, table, tables_of};
+ghost use Rattle.cat_objects.specs.Parts as parts;
+ghost use Rattle.cat_values.specs.Maps.{first_after};
 
 use crate::{HeldDb, HeldTable};
 use cat_types::{DbRec, ListOf, MapOf, NoMemory, PartRec, TableRec, Text, Texts};
@@ -124,6 +127,25 @@ impl Cat {
         Some((held.born, &held.rec))
     }
 
+    /// The first database whose name is above this one, which is in lower case, or the first of all,
+    /// with its born and its record. It takes no memory.
+    pub fn db_after(&self, after: Option<&Text>) -> Option<(&Text, u64, &DbRec)>
+        ensures { option_map (λ found. (found.0.now, found.1, found.2.now)) result ≡ option_map shown_db (first_after (slice_cmp nat_cmp) (option_copied after.entry) self.now.databases) }
+    {
+        let (name, held) = self.databases.after(after)?;
+        Some((name, held.born, &held.rec))
+    }
+
+    /// The first table of a database whose name is above this one, or the first of all, with its born
+    /// and its record; none where the database isn't there. Both names are in lower case. It takes no
+    /// memory.
+    pub fn table_after(&self, db: &Text, after: Option<&Text>) -> Option<(&Text, u64, &TableRec)>
+        ensures { option_map (λ found. (found.0.now, found.1, found.2.now)) result ≡ option_map shown_table (first_after (slice_cmp nat_cmp) (option_copied after.entry) (tables_of (database self.now db.now))) }
+    {
+        let (name, held) = self.held_database(db)?.tables.after(after)?;
+        Some((name, held.born, &held.rec))
+    }
+
     /// The record of the partition with these values of the table with this name in the database with
     /// that one; both are in lower case. It takes no memory.
     pub fn part(&self, db: &Text, name: &Text, values: &Texts) -> Option<&PartRec>
@@ -147,7 +169,7 @@ impl Cat {
         name: &Text,
         after: Option<&Texts>,
     ) -> Option<(&Texts, &PartRec)>
-        ensures { option_map (λ found. (found.0.now, found.1.now)) result ≡ first_after (option_copied after.entry) (parts_of (table self.now db.now name.now)) }
+        ensures { option_map (λ found. (found.0.now, found.1.now)) result ≡ parts.first_after (option_copied after.entry) (parts_of (table self.now db.now name.now)) }
     {
         match self.held_table(db, name) {
             Some(held) => held.parts.after(after),

@@ -4,6 +4,7 @@
 mod cat;
 mod edits;
 mod held;
+mod laws;
 mod part_edits;
 mod parts;
 mod placing;
@@ -11,5 +12,6 @@ mod replaying;
 
 pub use cat::{Cat, LAST_EVENT};
 pub use held::{HeldDb, HeldTable};
+pub use laws::lawful_and_found_is_fitting;
 pub use parts::{HeldParts, PartPut};
 pub use placing::Placed;

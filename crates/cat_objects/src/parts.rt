@@ -8,7 +8,7 @@ ghost use Rattle.std.specs.List.Sorted.{IsStrictlySortedBy};
 ghost use Rattle.std.specs.Map.{keys_of, lookup, set_value};
 ghost use Rattle.std.specs.Option.{option_copied, option_map};
 ghost use Rattle.std.specs.Ordering.{is_le, is_lt, nat_cmp};
-ghost use Rattle.cat_objects.specs.Parts.{are_values, at_values, first_after, parts_from, without_part};
+ghost use Rattle.cat_objects.specs.Parts.{are_values, at_values, first_after, parts_above, parts_from, without_part};
 
 use cat_types::{NoMemory, PartRec, Texts};
 use std::alloc::Global;
@@ -84,6 +84,18 @@ impl HeldParts {
         not_below(&self.inner, first)
     }
 
+    /// The partitions whose values are above these, or all of them, in rising order of their values. It
+    /// takes no memory.
+    pub fn above(&self, after: Option<&Texts>) -> Range<'_, Texts, PartRec>
+        ensures pairs { result ≡ parts_above (option_copied after.entry) self.now }
+        ensures sorted { IsStrictlySortedBy (slice_cmp (slice_cmp nat_cmp)) (keys_of self.now) }
+    {
+        match after {
+            Some(values) => all_above(&self.inner, values),
+            None => all(&self.inner),
+        }
+    }
+
     /// Puts a partition, over the one with its values where there is one. After `NoMemory` they are
     /// as before.
     pub fn put(&mut self, values: Texts, rec: PartRec) -> Result<(), NoMemory>
@@ -125,6 +137,22 @@ fn not_below<'a, K: Ord, V>(inner: &'a BTreeMap<K, V>, key: &K) -> Range<'a, K, 
     ensures sorted { IsStrictlySortedBy K.cmp (keys_of inner.now.entries) }
 {
     inner.range((Bound::Included(key), Bound::Unbounded))
+}
+
+// The pairs whose keys are above this one.
+fn all_above<'a, K: Ord, V>(inner: &'a BTreeMap<K, V>, key: &K) -> Range<'a, K, V>
+    ensures pairs { result ≡ filter (λ entry. is_lt (K.cmp key.now entry.0)) inner.now.entries }
+    ensures sorted { IsStrictlySortedBy K.cmp (keys_of inner.now.entries) }
+{
+    inner.range((Bound::Excluded(key), Bound::Unbounded))
+}
+
+// All pairs.
+fn all<K: Ord, V>(inner: &BTreeMap<K, V>) -> Range<'_, K, V>
+    ensures pairs { result ≡ inner.now.entries }
+    ensures sorted { IsStrictlySortedBy K.cmp (keys_of inner.now.entries) }
+{
+    inner.range(..)
 }
 
 // Puts a value in the place of the one at a key, and gives that one. Without that key the map stays as
