@@ -1,3 +1,4 @@
+pub mod Refusals
 pub mod Opened
 pub mod Files
 pub mod Turns

@@ -2,11 +2,13 @@
 //! what it is told into a folder.
 #![tactic(auto)]
 
+mod arriving;
+mod asking;
 mod dumping;
 mod failure;
 mod place;
-mod steps;
-mod turns;
+mod refusals;
 mod writer;
 
 pub use dumping::{DumpAnswer, dump};
+pub use refusals::refusal_text;
