@@ -19,6 +19,16 @@ pub fn item_file(alloc: Global, items: &Items) -> Result<Bytes, NoMemory>
     Ok(bytes)
 }
 
+/// The bytes of a file with this item alone.
+pub fn one_item_file(alloc: Global, item: &Item) -> Result<Bytes, NoMemory>
+    ensures { IfOk result (λ bytes. bytes ≡ items_text (item.now ∷ [])) }
+{
+    let mut bytes = ListOf::new(alloc);
+    put_count(1, &mut bytes)?;
+    put_item(item, &mut bytes)?;
+    Ok(bytes)
+}
+
 /// The bytes of a file with these events.
 pub fn event_file(alloc: Global, events: &Events) -> Result<Bytes, NoMemory>
     ensures { IfOk result (λ bytes. bytes ≡ events_text events.now) }

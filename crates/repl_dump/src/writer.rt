@@ -21,5 +21,52 @@ pub struct Writer {
     pub dir: Text,
     pub items: u64,
     pub events: u64,
+    /// The event up to which the dump goes.
+    pub end: u64,
     pub files: Files,
+}
+
+impl Writer {
+    /// Writes the next file of this kind, and its line.
+    pub fn put<F: Folder>(
+        &mut self,
+        alloc: Global,
+        folder: &mut F,
+        kind: FileKind,
+        bytes: &Bytes,
+    ) -> Result<(), Failure> {
+        let place = self.place(kind);
+        let after = place.checked_add(1).ok_or(Failure::NoMemory)?;
+        let name = file_name(alloc, kind, place)?;
+        let path = path_in(alloc, &self.dir, name.as_str())?;
+        put_file(folder, path.as_str(), bytes.as_slice())?;
+        self.files.push(file_line(name, bytes.as_slice()))?;
+        self.count(kind, after);
+        Ok(())
+    }
+
+    // How many files of this kind were written.
+    fn place(&self, kind: FileKind) -> u64 {
+        match kind {
+            FileKind::ItemFile => self.items,
+            FileKind::EventFile => self.events,
+        }
+    }
+
+    // So many files of this kind were written.
+    fn count(&mut self, kind: FileKind, written: u64) {
+        match kind {
+            FileKind::ItemFile => self.items = written,
+            FileKind::EventFile => self.events = written,
+        }
+    }
+}
+
+/// Puts a file.
+pub fn put_file<F: Folder>(folder: &mut F, path: &str, bytes: &[u8]) -> Result<(), Failure> {
+    match folder.put(path, bytes) {
+        Ok(()) => Ok(()),
+        Err(Outage::Failed) => Err(Failure::FolderFault),
+        Err(Outage::NoMemory) => Err(Failure::NoMemory),
+    }
 }
