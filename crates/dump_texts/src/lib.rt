@@ -5,4 +5,4 @@ mod kinds;
 mod pieces;
 
 pub use kinds::FileKind;
-pub use pieces::{event_file, file_line, file_name, item_file, path_in};
+pub use pieces::{event_file, file_line, file_name, item_file, one_item_file, path_in};

@@ -1,11 +1,11 @@
 //! Pieces of a dump's files.
 
-ghost use Rattle.std.specs.Prelude.{◌≡◌, IfOk};
+ghost use Rattle.std.specs.Prelude.{◌≡◌, ◌∷◌, [], IfOk};
 ghost use Rattle.dump_texts.specs.Texts.{events_text, items_text, line_of, name_at, path_in};
 
 use crate::FileKind;
-use cat_types::{Bytes, Events, Items, ListOf, NoMemory, Text, TextFault};
-use change_codec::{put_events, put_items};
+use cat_types::{Bytes, Events, Item, Items, ListOf, NoMemory, Text, TextFault};
+use change_codec::{put_events, put_item, put_items};
 use dump_manifest::FileLine;
 use sha2::{Digest, Sha256};
 use std::alloc::Global;
@@ -23,8 +23,7 @@ pub fn item_file(alloc: Global, items: &Items) -> Result<Bytes, NoMemory>
 pub fn one_item_file(alloc: Global, item: &Item) -> Result<Bytes, NoMemory>
     ensures { IfOk result (λ bytes. bytes ≡ items_text (item.now ∷ [])) }
 {
-    let mut bytes = ListOf::new(alloc);
-    put_count(1, &mut bytes)?;
+    let mut bytes = Bytes::from_slice(alloc, &1u32.to_be_bytes())?;
     put_item(item, &mut bytes)?;
     Ok(bytes)
 }

@@ -49,9 +49,9 @@ pub record IsBroken (wanted : Wanted) (own : List Entry) (old new : Option Files
   pub files : LeavesFiles wanted own old new
 
 -- what a dump does that is answered so: it is done; or its entries are a dump's, with the refusal or the fault that is told among their answers; only for want of memory there may be none
-abbrev pub Dumps : Wanted → DumpAnswer → List Entry → Option Files → Option Files → Type 0
-Dumps wanted (dumped.Done dir last) own old new = IsDone wanted dir last own old new
-Dumps wanted (dumped.Refused refusal) own old new = IsBroken wanted own old new × SomeTold (answer.DumpRefused refusal) own
-Dumps wanted dumped.FolderFault own old new = IsBroken wanted own old new
-Dumps wanted dumped.StoreFault own old new = IsBroken wanted own old new × FirstTold answer.StoreFault own
-Dumps wanted dumped.NoMemory own old new = ((own ≡ []) × (new ≡ old)) ⊎ IsBroken wanted own old new
+abbrev pub Dumps : Wanted → DumpAnswer → Option Files → Option Files → List Entry → Type 0
+Dumps wanted (dumped.Done dir last) old new own = IsDone wanted dir last own old new
+Dumps wanted (dumped.Refused refusal) old new own = IsBroken wanted own old new × SomeTold (answer.DumpRefused refusal) own
+Dumps wanted dumped.FolderFault old new own = IsBroken wanted own old new
+Dumps wanted dumped.StoreFault old new own = IsBroken wanted own old new × FirstTold answer.StoreFault own
+Dumps wanted dumped.NoMemory old new own = ((own ≡ []) × (new ≡ old)) ⊎ IsBroken wanted own old new

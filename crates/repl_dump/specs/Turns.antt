@@ -1,7 +1,10 @@
 -- One step of a dump, and how it goes on.
-use Rattle.std.specs.Prelude.{◌≡◌, ◌≢◌, ℕ, ◌+◌, ◌-◌, ◌*◌, List, [], ◌∷◌, ◌++◌, length, Option, Result, Ok, Err}
+use Rattle.std.specs.Prelude.{◌≡◌, ◌≢◌, ℕ, ◌+◌, ◌-◌, ◌*◌, List, [], ◌∷◌, ◌++◌, length, Bool, true, Some}
+use Rattle.std.specs.List.{AllByRecursion}
 use Rattle.cat_types.specs.declared.steps.Answer.{Answer}
 use Rattle.cat_types.specs.declared.steps.Answer.TheVariants as answer
+use Rattle.cat_types.specs.declared.items.Item.{Item}
+use Rattle.cat_types.specs.declared.items.Item.TheVariants as item
 use Rattle.cat_values.specs.declared.list_of.TheConstants.{LIST_END}
 use Rattle.desk.specs.History.{Entry}
 use Rattle.desk.specs.Walks.{Goes, MayFail, Moves, Place, done, step_at}
@@ -56,3 +59,53 @@ rank at.End = 0
 -- how many steps may be left at most: a manifest has fewer than 2^31 lines, and at most four steps lie between two of them
 abbrev pub steps_left : Writer → At → ℕ
 steps_left writer place = 4 * (LIST_END - length writer.files) + rank place
+
+-- ---- which answers may come at a place
+
+-- an item is a table
+abbrev pub IsTable : Item → Type 0
+IsTable (item.Table at table born rec) = Unit {0}
+IsTable other = ⊥
+
+-- an item is a partition
+abbrev pub IsPart : Item → Type 0
+IsPart (item.Part at table born values rec) = Unit {0}
+IsPart other = ⊥
+
+-- an answer to the step for the next table: a table, or none; or its refusal
+abbrev pub FitsTable : Answer → Type 0
+FitsTable (answer.Table found) = IsTable found
+FitsTable answer.NoTable = Unit {0}
+FitsTable (answer.DumpRefused refusal) = Unit {0}
+FitsTable answer.NoMemory = Unit {0}
+FitsTable other = ⊥
+
+-- an answer to the step for partitions: partitions, at least one where others follow; or its refusal
+abbrev pub FitsParts : Answer → Type 0
+FitsParts (answer.Parts items more) = AllByRecursion IsPart items × (more ≡ true → items ≢ [])
+FitsParts (answer.DumpRefused refusal) = Unit {0}
+FitsParts answer.NoMemory = Unit {0}
+FitsParts other = ⊥
+
+-- an answer to the seal
+abbrev pub FitsSeal : Answer → Type 0
+FitsSeal (answer.Sealed number) = Unit {0}
+FitsSeal (answer.DumpRefused refusal) = Unit {0}
+FitsSeal answer.NoMemory = Unit {0}
+FitsSeal other = ⊥
+
+-- an answer to the step for events: events, at least one where others follow; or its refusal
+abbrev pub FitsEvents : Answer → Type 0
+FitsEvents (answer.Events events more) = (more ≡ true → events ≢ [])
+FitsEvents (answer.DumpRefused refusal) = Unit {0}
+FitsEvents answer.NoMemory = Unit {0}
+FitsEvents other = ⊥
+
+-- an answer to the step of a place before the end
+abbrev pub FitsPlace : Place → Answer → Type 0
+FitsPlace (walk.tables after) given = FitsTable given
+FitsPlace (walk.parts table born after) given = FitsParts given
+FitsPlace walk.seal given = FitsSeal given
+FitsPlace (walk.events after) given = FitsEvents given
+FitsPlace walk.end given = ⊥
+FitsPlace walk.done given = ⊥

@@ -1,6 +1,6 @@
 //! How a dump fails.
 
-use cat_types::DumpRefusal;
+use cat_types::{DumpRefusal, NoMemory};
 
 /// Why a dump that was begun goes no further.
 #[derive(Clone, Copy, Debug, PartialEq, Eq)]
@@ -11,4 +11,12 @@ pub enum Failure {
     FolderFault,
     /// Memory was refused.
     NoMemory,
+}
+
+impl From<NoMemory> for Failure {
+    fn from(_refused: NoMemory) -> Failure
+        ensures { result ≡ Failure.NoMemory }
+    {
+        Failure::NoMemory
+    }
 }

@@ -18,3 +18,10 @@ pub enum Place {
     Events(u64),
     End,
 }
+
+impl Place {
+    /// Whether nothing is left to be asked for but the end.
+    pub fn is_end(&self) -> bool {
+        matches!(self, Place::End)
+    }
+}

@@ -8,8 +8,8 @@ ghost use Rattle.hms_outside.specs.Told.{Goes};
 ghost use Rattle.repl_dump.specs.Files.{Put, OthersStay};
 
 use crate::failure::Failure;
-use cat_types::{Bytes, NoMemory, Text};
-use dump_manifest::Files;
+use cat_types::{Bytes, ListOf, NoMemory, Text};
+use dump_manifest::{Files, dir_name};
 use dump_texts::{FileKind, file_line, file_name, path_in};
 use hms_outside::{Folder, Outage};
 use std::alloc::Global;
@@ -27,6 +27,17 @@ pub struct Writer {
 }
 
 impl Writer {
+    /// Nothing is written yet. The dump goes up to `end`, unless its seal says otherwise.
+    pub fn new(alloc: Global, source: &[u8; 16], dump: u64, end: u64) -> Result<Writer, NoMemory> {
+        Ok(Writer {
+            dir: dir_name(alloc, source, dump)?,
+            items: 0,
+            events: 0,
+            end,
+            files: ListOf::new(alloc),
+        })
+    }
+
     /// Writes the next file of this kind, and its line.
     pub fn put<F: Folder>(
         &mut self,
