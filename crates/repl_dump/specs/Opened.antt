@@ -8,7 +8,7 @@ use Rattle.dump_steps.specs.declared.open_dumps.OpenDump.{OpenDump}
 -- after this history the caller has an open dump of this number, and it takes such steps
 pub record Takes (allows : DumpKind → Bool) (me number : ℕ) (start : Start) (history : List Entry) : Type 0 where
   pub dump : OpenDump
-  pub open : open_dump me number (state_after start history).dumps ≡ Some dump
+  pub opened : open_dump me number (state_after start history).dumps ≡ Some dump
   pub allowed : allows dump.kind ≡ true
 
 -- every open dump takes such a step

@@ -44,7 +44,7 @@ pub record Stopped (dump begin : ℕ) (from : Place) (failed_so : Failure) (own 
   pub failed : List Entry
   pub is : own ≡ walked ++ failed
   pub goes : Goes dump begin from walked place
-  pub open : place ≢ done
+  pub unfinished : place ≢ done
   pub fails : MayFail dump place failed
   pub told : ToldBy failed_so failed
 
