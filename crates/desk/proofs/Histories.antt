@@ -1,10 +1,10 @@
 -- How a legal history goes on.
-use Rattle.std.proofs.Common.{◌≡◌, ◌≢◌, ◌≤◌, ℕ, List, [], ◌∷◌, ◌++◌, map, refl, arith}
+use Rattle.std.proofs.Common.{◌≡◌, ◌≢◌, ◌≤◌, ℕ, List, [], ◌∷◌, ◌++◌, map, refl, subst, arith}
 use Rattle.desk.specs.State.{State, MayAnswer}
 use Rattle.desk.specs.History.{Transition, took, Point, next, point_after, IsLegal, NoneAbove, NoStoreFault, Entry}
 use Rattle.cat_types.specs.declared.steps.Answer.{Answer}
 use Rattle.cat_types.specs.declared.steps.Step.{Step}
-use Rattle.cat_types.specs.declared.steps.Answer.TheVariants.{Reply, NoMemory, StoreFault}
+use Rattle.cat_types.specs.declared.steps.Answer.TheVariants.{StoreFault}
 
 pub point_after-append : (p : Point) (xs ys : List Transition) → point_after p (xs ++ ys) ≡ point_after (point_after p xs) ys
 point_after-append p [] ys = refl
@@ -16,9 +16,9 @@ IsLegal-append p (x ∷ xs) ys l r = (l.0, IsLegal-append (next p x) xs ys l.1 r
 
 -- a fault of the store would have raised the fault number above 0
 not_told : (s : State) (before caller after : ℕ) (step : Step) (given : Answer) → MayAnswer s before caller step given after → after ≤ 0 → given ≢ StoreFault
-not_told s before caller after step NoMemory may none is = absurd cc
-not_told s before caller after step StoreFault may none is = omega (arith, may.1, none)
-not_told s before caller after step (Reply r) may none is = absurd cc
+not_told s before caller after step given may none is =
+    let told : MayAnswer s before caller step StoreFault after = subst (λ (a : Answer). MayAnswer s before caller step a after) is may in
+    omega (arith, told.1, none)
 
 -- where no fault was counted none was told
 pub no_store_fault : (p : Point) (es : List Entry) → IsLegal p (map took es) → NoneAbove 0 es → NoStoreFault es

@@ -2,7 +2,7 @@
 use Rattle.std.proofs.Common.{◌≡◌, ℕ, ◌+◌, zero, suc, Bool, true, false, not, List, [], ◌∷◌, ◌++◌, length, Option, Some, None, is_some, ◌⊎◌, inl, inr, refl, sym, ◌∙◌, ap, subst, arith, length-append}
 use Rattle.std.specs.Prelude.{cond, option_to_list, ◌&&◌}
 use Rattle.cat_types.specs.declared.steps.Answer.{Answer}
-use Rattle.cat_types.specs.declared.steps.Answer.TheVariants.{Reply, NoMemory, StoreFault}
+use Rattle.cat_types.specs.declared.steps.Answer.TheVariants.{Began, DumpRefused, Ended, Events, Kept, NoMemory, NoTable, NotOpen, Parts, Reply, Sealed, StoreFault, Table}
 use Rattle.desk.specs.History.{Entry, Pending, Transition, Point, Start, took, reopened, event_found, found, pending_at, next, point_after, point_of, state_found}
 use Rattle.desk.specs.Laws.{AllUnsettledAreFound, NoneSettles, OnlyUnsettledAreFound, Unsettled, settles, unsettled_after, unsettled_next}
 use Rattle.desk.specs.State.{is_refused, writes}
@@ -14,6 +14,16 @@ refused_so : (a : Answer) → is_refused a ≡ true → (a ≡ NoMemory) ⊎ (a 
 refused_so NoMemory is = inl refl
 refused_so StoreFault is = inr refl
 refused_so (Reply reply) is = absurd cc
+refused_so (Began dump source born begin end first) is = absurd cc
+refused_so (Table table) is = absurd cc
+refused_so NoTable is = absurd cc
+refused_so (Parts parts more) is = absurd cc
+refused_so (Sealed number) is = absurd cc
+refused_so (Events events more) is = absurd cc
+refused_so Ended is = absurd cc
+refused_so (DumpRefused refusal) is = absurd cc
+refused_so (Kept first) is = absurd cc
+refused_so NotOpen is = absurd cc
 
 is_refused_so : (a : Answer) → (a ≡ NoMemory) ⊎ (a ≡ StoreFault) → is_refused a ≡ true
 is_refused_so a (inl is) = ap is_refused is

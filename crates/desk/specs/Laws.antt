@@ -16,6 +16,7 @@ use Rattle.cat_objects.specs.Parts.{PartList}
 use Rattle.cat_objects.specs.declared.held.HeldTable.{HeldTable}
 use Rattle.catalogue.specs.Polls.{poll_of}
 use Rattle.desk.specs.History.{Entry, Transition, took, reopened, Point, Start, MayFollow, events_at, events_from, next, point_after, point_of}
+use Rattle.desk.specs.Walks.{Goes, Place}
 use Rattle.desk.specs.State.{State, due, due_answer, durable, event_of, events_from_number, is_refused, start, writes}
 use Rattle.hms_outside.specs.Disks.{Lies}
 
@@ -126,6 +127,12 @@ OpeningsEndDumps = (s : Start) (history : List Transition) (a : Option ℕ) (fau
 -- An answer that is due isn't one of a step that wasn't taken.
 abbrev pub DueStepsAreTaken : Type 0
 DueStepsAreTaken = (s : State) (caller : ℕ) (step : Step) → is_refused (due_answer s caller step) ≡ false
+
+-- ---- walks
+
+-- A walk is followed in one way only: the same entries lead from a place to one other alone.
+abbrev pub WalksLeadOneWay : Type 0
+WalksLeadOneWay = (dump begin : ℕ) (from : Place) (entries : List Entry) (a b : Place) → Goes dump begin from entries a → Goes dump begin from entries b → a ≡ b
 
 -- ---- the names of databases and of tables
 

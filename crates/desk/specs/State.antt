@@ -17,8 +17,9 @@ use Rattle.cat_objects.specs.Catalogue.{Catalogue, database, new_catalogue}
 use Rattle.cat_objects.specs.declared.held.HeldDb.{HeldDb}
 use Rattle.dump_steps.specs.Open.{dumping, first_kept, open_dump, takes_events, takes_objects, trim_end, with_dump, with_sealed, without_dump}
 use Rattle.dump_steps.specs.Pieces.{answered_in, begun, first_item, is_taken_in, kind_of, next_events, next_parts, next_table, told_begun}
-use Rattle.dump_steps.specs.Ranges.{Asked, begin_refusal}
+use Rattle.dump_steps.specs.Ranges.{begin_refusal}
 use Rattle.dump_steps.specs.declared.open_dumps.OpenDump.{OpenDump}
+use Rattle.dump_steps.specs.declared.ranges.Asked.{Asked}
 use Rattle.cat_objects.specs.Changes.{done, has_operation}
 use Rattle.rulings.specs.Decisions.{Decision, accepted, refused}
 use Rattle.catalogue.specs.Polls.{poll_of}
@@ -218,7 +219,7 @@ due_answer state caller (Client call moment) = answer.Reply (reply_in state (pol
 due_answer state caller (DumpBegin db from to limit) = begin_answer state.id (beginning state caller db (asked_for from to limit))
 due_answer state caller (DumpTable dump after) = answered_in (open_dump caller dump state.dumps) takes_objects state.catalogue (next_table state.catalogue state.newest after)
 due_answer state caller (DumpParts dump table born after) = answered_in (open_dump caller dump state.dumps) takes_objects state.catalogue (next_parts state.catalogue state.newest table born after)
-due_answer state caller (DumpSeal dump) = answered_in (open_dump caller dump state.dumps) takes_objects state.catalogue (λ open. answer.Sealed state.newest)
+due_answer state caller (DumpSeal dump) = answered_in (open_dump caller dump state.dumps) takes_objects state.catalogue (λ opened. answer.Sealed state.newest)
 due_answer state caller (DumpEvents dump after) = answered_in (open_dump caller dump state.dumps) takes_events state.catalogue (next_events state.events after)
 due_answer state caller (DumpEnd dump) = end_answer (open_dump caller dump state.dumps)
 due_answer state caller (Trim upto) = answer.Kept (first_after_trim state upto)

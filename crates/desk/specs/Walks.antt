@@ -39,7 +39,7 @@ last_values values (item.Db at born rec ∷ items) = last_values values items
 -- the number of the last of these events
 abbrev pub last_number : ℕ → List Event → ℕ
 last_number number [] = number
-last_number number (event ∷ events) = last_number event.id events
+last_number number (event ∷ others) = last_number event.id others
 
 -- a table came, and its partitions are next
 pub record TableCame (given : Answer) (to : Place) : Type 0 where
@@ -150,7 +150,7 @@ pub record BrokenOff (wanted : Wanted) (began : Began) (entries : List Entry) : 
   pub ending : Entry
   pub is : entries ≡ walked ++ (failed ++ ending ∷ [])
   pub goes : Walked wanted began walked place
-  pub open : place ≢ done
+  pub before_end : place ≢ done
   pub fails : MayFail began.dump place failed
   pub ends : (ending.0.step ≡ DumpEnd began.dump) × (ending.1.answer ≡ answer.Ended)
 

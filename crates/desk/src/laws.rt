@@ -15,6 +15,7 @@ ghost use Rattle.desk.specs.Laws.{
   PollsWriteNothing,
   TableNamesGoOnRising,
   TableNamesOfNewStoresRise,
+  WalksLeadOneWay,
   WritesWhereTheDisksChange,
 };
 
@@ -51,6 +52,11 @@ pub fn openings_give_the_disks()
 /// No due answer tells that a step wasn't taken.
 pub fn due_steps_are_taken()
     ensures { DueStepsAreTaken }
+{}
+
+/// The entries of a dump lead from each place of its walk to one other alone.
+pub fn walks_lead_one_way()
+    ensures { WalksLeadOneWay }
 {}
 
 /// The names of the databases rise strictly after every history of a new store, and of any start at which

@@ -58,7 +58,7 @@ fn take_turn<C: Core>(core: &mut C, turn: Foreign)
     ensures turn { (entry : Entry) × IsAskedBy turn entry × (C.history core.new ≡ C.history core.old ++ entry ∷ []) }
 {
     let Foreign { caller, step } = turn;
-    let _ = core.turn(caller, step);
+    drop(core.turn(caller, step));
 }
 
 impl<C: Core> ScriptDesk<C> {
