@@ -15,7 +15,7 @@ use Rattle.cat_types.specs.declared.steps.Step.TheVariants.{Client, DumpBegin, D
 use Rattle.cat_values.specs.Names.{lower}
 use Rattle.cat_objects.specs.Catalogue.{Catalogue, database, new_catalogue}
 use Rattle.cat_objects.specs.declared.held.HeldDb.{HeldDb}
-use Rattle.dump_steps.specs.Open.{dumping, first_kept, open_dump, takes_events, takes_objects, trim_end, with_sealed, without_dump}
+use Rattle.dump_steps.specs.Open.{dumping, first_kept, open_dump, takes_events, takes_objects, trim_end, with_dump, with_sealed, without_dump}
 use Rattle.dump_steps.specs.Pieces.{answered_in, begun, first_item, is_taken_in, kind_of, next_events, next_parts, next_table, told_begun}
 use Rattle.dump_steps.specs.Ranges.{begin_refusal}
 use Rattle.dump_steps.specs.declared.open_dumps.OpenDump.{OpenDump}
@@ -93,7 +93,7 @@ begin_answer id (opens dump first) = told_begun id dump first
 -- the open dumps after it
 abbrev pub dumps_begun : List OpenDump → Beginning → List OpenDump
 dumps_begun dumps (unbegun refusal) = dumps
-dumps_begun dumps (opens dump first) = dumps ++ dump ∷ []
+dumps_begun dumps (opens dump first) = with_dump dump dumps
 
 -- ---- what a step writes
 

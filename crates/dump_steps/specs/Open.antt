@@ -1,5 +1,5 @@
 -- Open dumps.
-use Rattle.std.specs.Prelude.{ℕ, ◌+◌, ◌==◌, min, max, ℤ, pos, nat_abs, int_lt, Bool, true, false, not, ◌&&◌, List, [], ◌∷◌, map, Option, if◌then◌else◌}
+use Rattle.std.specs.Prelude.{ℕ, ◌+◌, ◌==◌, min, max, ℤ, pos, nat_abs, int_lt, Bool, true, false, not, ◌&&◌, List, [], ◌∷◌, ◌++◌, map, Option, if◌then◌else◌}
 use Rattle.std.specs.List.{filter, find}
 use Rattle.dump_steps.specs.declared.open_dumps.DumpKind.{DumpKind}
 use Rattle.dump_steps.specs.declared.open_dumps.DumpKind.TheVariants.{Bootstrap, Incremental}
@@ -35,6 +35,10 @@ open_dump caller number dumps = find (is_dump caller number) dumps
 -- open dumps without this one
 abbrev pub without_dump : ℕ → ℕ → List OpenDump → List OpenDump
 without_dump caller number dumps = filter (λ dump. not (is_dump caller number dump)) dumps
+
+-- open dumps with this one, in the place of one that its caller has with its number
+abbrev pub with_dump : OpenDump → List OpenDump → List OpenDump
+with_dump dump dumps = without_dump dump.caller dump.number dumps ++ dump ∷ []
 
 -- a dump that is sealed at this event
 abbrev pub sealed_at : ℕ → OpenDump → OpenDump

@@ -2,7 +2,7 @@
 
 ghost use Rattle.std.specs.Prelude.{◌≡◌, ◌<◌, ◌≤◌, ◌+◌, ◌&&◌, ◌==◌, [], ◌∷◌, ◌++◌, IfOk, OnOk};
 ghost use Rattle.std.specs.Option.{option_copied};
-ghost use Rattle.dump_steps.specs.Open.{dumping, is_bootstrap, is_dump, least_begin, open_dump, sealed_at, with_sealed, without_dump};
+ghost use Rattle.dump_steps.specs.Open.{dumping, is_bootstrap, is_dump, least_begin, open_dump, sealed_at, with_dump, with_sealed, without_dump};
 
 use cat_types::{ListOf, NoMemory, Text, Texts, TryCopy};
 use std::alloc::Global;
@@ -100,12 +100,14 @@ impl OpenDumps {
         Ok(())
     }
 
-    /// Adds a dump behind the others, into the memory that `room` took.
+    /// Opens a dump, in the memory that `room` took. Where its caller had one of its number, that one
+    /// ends.
     pub fn open(&mut self, dump: OpenDump)
         requires { 0 < self.old.spare }
-        ensures dumps { self.new.dumps ≡ self.old.dumps ++ dump ∷ [] }
-        ensures spare { self.new.spare + 1 ≡ self.old.spare }
+        ensures dumps { self.new.dumps ≡ with_dump dump self.old.dumps }
+        ensures spare { self.old.spare ≤ self.new.spare + 1 }
     {
+        self.end(dump.caller, dump.number);
         self.dumps.push_reserved(dump);
     }
 

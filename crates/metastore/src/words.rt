@@ -37,6 +37,20 @@ pub fn path_of(alloc: Global, words: &[String], name: &str) -> Result<String, Al
     format!(in alloc; "{store}/{name}")
 }
 
+/// The path of the folder of dumps. Where the words name none it is empty, and so a folder in which no
+/// file can be.
+pub fn dumps_of(alloc: Global, words: &[String]) -> Result<String, AllocError> {
+    if words.len() < BEFORE {
+        return Ok(String::new(alloc));
+    }
+    copy_of(alloc, words[2].as_str())
+}
+
+/// A text as a string of its own.
+pub fn copy_of(alloc: Global, text: &str) -> Result<String, AllocError> {
+    format!(in alloc; "{text}")
+}
+
 /// The words of the command.
 pub fn command_of(words: &[String]) -> &[String] {
     if words.len() < BEFORE {

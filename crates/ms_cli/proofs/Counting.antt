@@ -1,8 +1,8 @@
 -- Where no disk counts a fault, no step is answered by one.
-use Rattle.std.proofs.Common.{◌≡◌, ◌≢◌, ℕ, ◌<◌, ◌≤◌, ◌^◌, ◌-◌, List, [], ◌∷◌, map, arith}
+use Rattle.std.proofs.Common.{◌≡◌, ◌≢◌, ℕ, ◌<◌, ◌≤◌, ◌^◌, ◌-◌, List, [], ◌∷◌, map, subst, arith}
 use Rattle.hms_outside.specs.Causes.{Rose}
 use Rattle.cat_types.specs.declared.steps.Answer.{Answer}
-use Rattle.cat_types.specs.declared.steps.Answer.TheVariants.{NoMemory, Reply, StoreFault}
+use Rattle.cat_types.specs.declared.steps.Answer.TheVariants.{StoreFault}
 use Rattle.cat_types.specs.declared.steps.Step.{Step}
 use Rattle.desk.specs.History.{Entry, IsLegal, NoneAbove, NoStoreFault, Point, next, point_of, took}
 use Rattle.desk.specs.State.{MayAnswer, State}
@@ -10,9 +10,9 @@ use Rattle.ms_cli.specs.Local.{Outside, Piped, fault_of}
 
 -- a fault of the store would have raised the fault number
 not_told : (s : State) (before caller after : ℕ) (step : Step) (given : Answer) → MayAnswer s before caller step given after → after ≤ before → before < 2 ^ 64 - 1 → given ≢ StoreFault
-not_told s before caller after step NoMemory may stays low is = absurd cc
-not_told s before caller after step StoreFault may stays low is = absurd (omega (arith, may.1, stays, low))
-not_told s before caller after step (Reply r) may stays low is = absurd cc
+not_told s before caller after step given may stays low = λ is.
+    let told : MayAnswer s before caller step StoreFault after = subst (λ (a : Answer). MayAnswer s before caller step a after) is may in
+    omega (arith, told.1, stays, low)
 
 -- where no fault number is above that of the start, none was told
 pub none_told : (p : Point) (es : List Entry) (n : ℕ) → IsLegal p (map took es) → NoneAbove n es → n ≤ p.fault → n < 2 ^ 64 - 1 → NoStoreFault es

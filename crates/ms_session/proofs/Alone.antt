@@ -71,6 +71,16 @@ answered_so : (s : State) (before caller after : ℕ) (step : Step) (a : Answer)
 answered_so s before caller after step answer.NoMemory wanted still answers may due is = inr is
 answered_so s before caller after step answer.StoreFault wanted still answers may due is = absurd (false≢true (sym still ∙ may.0))
 answered_so s before caller after step (answer.Reply r) wanted still answers may due is = inl (is ∙ ap reply_in (may ∙ answers))
+answered_so s before caller after step (answer.Began dump source born begin end first) wanted still answers may due is = absurd is
+answered_so s before caller after step (answer.Table item) wanted still answers may due is = absurd is
+answered_so s before caller after step answer.NoTable wanted still answers may due is = absurd is
+answered_so s before caller after step (answer.Parts parts more) wanted still answers may due is = absurd is
+answered_so s before caller after step (answer.Sealed end) wanted still answers may due is = absurd is
+answered_so s before caller after step (answer.Events events more) wanted still answers may due is = absurd is
+answered_so s before caller after step answer.Ended wanted still answers may due is = absurd is
+answered_so s before caller after step (answer.DumpRefused refusal) wanted still answers may due is = absurd is
+answered_so s before caller after step (answer.Kept first) wanted still answers may due is = absurd is
+answered_so s before caller after step answer.NotOpen wanted still answers may due is = absurd is
 
 -- what is sent in place of what is due is want of memory
 instead : (due reply wanted : Reply) → (due ≡ wanted) ⊎ (due ≡ out_of_memory) → (reply ≡ due) ⊎ (reply ≡ out_of_memory) → (reply ≡ wanted) ⊎ (reply ≡ out_of_memory)
@@ -374,6 +384,16 @@ stays : (p : Point) (caller : ℕ) (call : Call) (moment : ℕ) (a : Answer) →
 stays p caller call moment answer.NoMemory none has = has
 stays p caller call moment answer.StoreFault none has = has
 stays p caller call moment (answer.Reply r) none has = leaves p.state caller call moment none has
+stays p caller call moment (answer.Began dump source born begin end first) none has = leaves p.state caller call moment none has
+stays p caller call moment (answer.Table item) none has = leaves p.state caller call moment none has
+stays p caller call moment answer.NoTable none has = leaves p.state caller call moment none has
+stays p caller call moment (answer.Parts parts more) none has = leaves p.state caller call moment none has
+stays p caller call moment (answer.Sealed end) none has = leaves p.state caller call moment none has
+stays p caller call moment (answer.Events events more) none has = leaves p.state caller call moment none has
+stays p caller call moment answer.Ended none has = leaves p.state caller call moment none has
+stays p caller call moment (answer.DumpRefused refusal) none has = leaves p.state caller call moment none has
+stays p caller call moment (answer.Kept first) none has = leaves p.state caller call moment none has
+stays p caller call moment answer.NotOpen none has = leaves p.state caller call moment none has
 
 -- ---- messages
 

@@ -14,7 +14,7 @@ use Rattle.ms_calls.specs.Refusals.{out_of_memory}
 use Rattle.ms_calls.specs.declared.request.Asked.{Asked}
 use Rattle.ms_calls.specs.declared.request.Asked.TheVariants.{Client}
 use Rattle.ms_session.specs.Replies.{reply_bytes}
-use Rattle.ms_session.specs.Turns.{Answers, AnswersBy, Begins, Did, Due, Files, GrewPart, Replies, IsReplyTo, Timed, moments_of}
+use Rattle.ms_session.specs.Turns.{Answers, AnswersCall, AnswersBy, Begins, Did, Due, Files, GrewPart, Replies, IsReplyTo, Timed, moments_of}
 use Rattle.ms_session.specs.declared.request.Request.{Request}
 use Rattle.ms_session.proofs.Results.{is_reply, only_replies, reply_in}
 use Rattle.ms_session.proofs.Turns.{is_wanted, no_reply, reply_sent}
@@ -26,10 +26,10 @@ same_clock (Some x) = refl
 -- a call took its one step at the clock's next moment
 pub called : {E : Type 0} (alone : Bool) (me : ℕ) (old new between : List Entry) (e : Entry) (call : Call) (moment : ℕ) (clock clock' : Option (List ℕ)) (files : Option Files) (result : Result Reply E)
     → e.0.caller ≡ me → e.0.step ≡ step.Client call moment → Others me between → new ≡ (old ++ between) ++ e ∷ [] → (IsTrue alone → new ≡ old ++ e ∷ [])
-    → Ticks clock clock' moment → IfOk result (IsReplyTo e.1.answer) → Adds alone me old new (Did (Client call) clock clock' files files result)
-called alone me old new between e call moment clock clock' files result mine is others grew sole ticks replied =
+    → Ticks clock clock' moment → AnswersCall e.1.answer → IfOk result (IsReplyTo e.1.answer) → Adds alone me old new (Did (Client call) clock clock' files files result)
+called alone me old new between e call moment clock clock' files result mine is others grew sole ticks call_answer replied =
     adds_one alone me old new between e (Did (Client call) clock clock' files files result) mine others grew sole
-    (reply_in e.1.answer, (e, moment, refl, is, is_reply e.1.answer, refl), rw is (clock', ticks, same_clock clock'), only_replies e.1.answer result replied)
+    (reply_in e.1.answer, (e, moment, refl, is, is_reply e.1.answer call_answer, refl), rw is (clock', ticks, same_clock clock'), only_replies e.1.answer result replied)
 
 -- nothing else is a step
 pub not_called : {E : Type 0} (alone : Bool) (me : ℕ) (es : List Entry) (clock : Option (List ℕ)) (files : Option Files) (asked : Asked) (due : Reply) (result : Result Reply E) → Due asked [] files files due → IfOk result (λ reply. reply ≡ due)

@@ -52,7 +52,7 @@ use Rattle.ms_calls.specs.Exceptions.{declared_id, general_code}
 use Rattle.ms_calls.specs.Refusals.{out_of_memory, store_fault}
 use Rattle.ms_calls.specs.Replies.{CanReply, fields_of_reply, one_part, refused_as, result_fields}
 use Rattle.ms_calls.specs.declared.method.ResultType.TheVariants as of
-use Rattle.ms_session.specs.Turns.{IsReplyTo}
+use Rattle.ms_session.specs.Turns.{AnswersCall, IsReplyTo}
 
 -- ---- results of calls
 
@@ -61,16 +61,37 @@ abbrev pub reply_in : Answer → Reply
 reply_in (answer.Reply told) = told
 reply_in answer.StoreFault = store_fault
 reply_in answer.NoMemory = out_of_memory
+reply_in other = out_of_memory
 
-pub is_reply : (a : Answer) → IsReplyTo a (reply_in a)
-is_reply (answer.Reply told) = refl
-is_reply answer.StoreFault = refl
-is_reply answer.NoMemory = refl
+pub is_reply : (a : Answer) → AnswersCall a → IsReplyTo a (reply_in a)
+is_reply (answer.Reply told) call = refl
+is_reply answer.StoreFault call = refl
+is_reply answer.NoMemory call = refl
+is_reply (answer.Began dump source born begin end first) call = absurd call
+is_reply (answer.Table item) call = absurd call
+is_reply answer.NoTable call = absurd call
+is_reply (answer.Parts parts more) call = absurd call
+is_reply (answer.Sealed end) call = absurd call
+is_reply (answer.Events events more) call = absurd call
+is_reply answer.Ended call = absurd call
+is_reply (answer.DumpRefused refusal) call = absurd call
+is_reply (answer.Kept first) call = absurd call
+is_reply answer.NotOpen call = absurd call
 
 pub only_reply : (a : Answer) (reply : Reply) → IsReplyTo a reply → reply ≡ reply_in a
 only_reply (answer.Reply told) reply is = is
 only_reply answer.StoreFault reply is = is
 only_reply answer.NoMemory reply is = is
+only_reply (answer.Began dump source born begin end first) reply is = absurd is
+only_reply (answer.Table item) reply is = absurd is
+only_reply answer.NoTable reply is = absurd is
+only_reply (answer.Parts parts more) reply is = absurd is
+only_reply (answer.Sealed end) reply is = absurd is
+only_reply (answer.Events events more) reply is = absurd is
+only_reply answer.Ended reply is = absurd is
+only_reply (answer.DumpRefused refusal) reply is = absurd is
+only_reply (answer.Kept first) reply is = absurd is
+only_reply answer.NotOpen reply is = absurd is
 
 pub only_replies : {E : Type 0} (a : Answer) (result : Result Reply E) → IfOk result (IsReplyTo a) → IfOk result (λ reply. reply ≡ reply_in a)
 only_replies a (Ok reply) is = only_reply a reply is
@@ -339,10 +360,36 @@ by_call : (p : Point) (caller : ℕ) (call : Call) (moment : ℕ) (a : Answer) (
 by_call p caller call moment answer.NoMemory fault m is may = refl
 by_call p caller call moment answer.StoreFault fault m is may = (by_method p.state call moment m is).fault
 by_call p caller call moment (answer.Reply r) fault m is may = subst (CanReply (Some m)) (sym (ap reply_in may)) (by_method p.state call moment m is).due
+by_call p caller call moment (answer.Began dump source born begin end first) fault m is may = absurd cc
+by_call p caller call moment (answer.Table item) fault m is may = absurd cc
+by_call p caller call moment answer.NoTable fault m is may = absurd cc
+by_call p caller call moment (answer.Parts parts more) fault m is may = absurd cc
+by_call p caller call moment (answer.Sealed end) fault m is may = absurd cc
+by_call p caller call moment (answer.Events events more) fault m is may = absurd cc
+by_call p caller call moment answer.Ended fault m is may = absurd cc
+by_call p caller call moment (answer.DumpRefused refusal) fault m is may = absurd cc
+by_call p caller call moment (answer.Kept first) fault m is may = absurd cc
+by_call p caller call moment answer.NotOpen fault m is may = absurd cc
 
 can_answer : (p : Point) (caller : ℕ) (call : Call) (moment : ℕ) (a : Answer) (fault : ℕ) (m : Option Method) → CameAs m call → MayAnswer p.state p.fault caller (step.Client call moment) a fault → CanReply m (reply_in a)
 can_answer p caller call moment a fault None came may = absurd came
 can_answer p caller call moment a fault (Some m) came may = by_call p caller call moment a fault m came may
+
+-- what a call is answered
+answers_call : (s : State) (before caller after : ℕ) (call : Call) (moment : ℕ) (a : Answer) → MayAnswer s before caller (step.Client call moment) a after → AnswersCall a
+answers_call s before caller after call moment (answer.Reply r) may = tt
+answers_call s before caller after call moment answer.StoreFault may = tt
+answers_call s before caller after call moment answer.NoMemory may = tt
+answers_call s before caller after call moment (answer.Began dump source born begin end first) may = absurd cc
+answers_call s before caller after call moment (answer.Table item) may = absurd cc
+answers_call s before caller after call moment answer.NoTable may = absurd cc
+answers_call s before caller after call moment (answer.Parts parts more) may = absurd cc
+answers_call s before caller after call moment (answer.Sealed end) may = absurd cc
+answers_call s before caller after call moment (answer.Events events more) may = absurd cc
+answers_call s before caller after call moment answer.Ended may = absurd cc
+answers_call s before caller after call moment (answer.DumpRefused refusal) may = absurd cc
+answers_call s before caller after call moment (answer.Kept first) may = absurd cc
+answers_call s before caller after call moment answer.NotOpen may = absurd cc
 
 -- ---- the last answer of a legal history
 
@@ -358,6 +405,12 @@ can_call s old between new e call moment (Ok reply) is grew legal replied m came
     let last = last_may (point_of s) (old ++ between) e (subst (λ (es : List Entry). Legal s es) grew legal) in
     let may = subst (λ (t : Step). MayAnswer last.0.state last.0.fault e.0.caller t e.1.answer e.1.fault) is last.1.1 in
     subst (CanReply m) (sym (only_reply e.1.answer reply replied)) (can_answer last.0 e.0.caller call moment e.1.answer e.1.fault m came may)
+
+-- what a desk answered to a call is an answer to one
+pub call_answered : (s : Start) (old between new : List Entry) (e : Entry) (call : Call) (moment : ℕ) → e.0.step ≡ step.Client call moment → new ≡ (old ++ between) ++ e ∷ [] → Legal s new → AnswersCall e.1.answer
+call_answered s old between new e call moment is grew legal =
+    let last = last_may (point_of s) (old ++ between) e (subst (λ (es : List Entry). Legal s es) grew legal) in
+    answers_call last.0.state last.0.fault e.0.caller e.1.fault call moment e.1.answer (subst (λ (t : Step). MayAnswer last.0.state last.0.fault e.0.caller t e.1.answer e.1.fault) is last.1.1)
 
 -- a refusal that every call may be answered
 told_to_all : (code declared : Option ℤ) (text : List ℕ) → IsSome code → IsSome (refused_as text code declared)

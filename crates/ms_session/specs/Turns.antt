@@ -26,6 +26,14 @@ abbrev pub IsReplyTo : Answer → Reply → Type 0
 IsReplyTo (answer.Reply told) reply = reply ≡ told
 IsReplyTo answer.StoreFault reply = reply ≡ store_fault
 IsReplyTo answer.NoMemory reply = reply ≡ out_of_memory
+IsReplyTo other reply = ⊥
+
+-- an answer is one that a call may get: a reply, a fault of the store, or want of memory
+abbrev pub AnswersCall : Answer → Type 0
+AnswersCall (answer.Reply told) = Unit {0}
+AnswersCall answer.StoreFault = Unit {0}
+AnswersCall answer.NoMemory = Unit {0}
+AnswersCall other = ⊥
 
 -- the files of a folder, by name
 abbrev pub Files : Type 0
@@ -68,6 +76,7 @@ replies_of turns = flat_map (λ turn. sent_for turn.message.head turn.reply) tur
 -- the moments of the clock that a step was taken at: a call has one
 abbrev pub moments_in : Step → List ℕ
 moments_in (step.Client call moment) = moment ∷ []
+moments_in other = []
 
 -- the moments of entries, in their order
 abbrev pub moments_of : List Entry → List ℕ

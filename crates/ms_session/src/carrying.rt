@@ -7,7 +7,7 @@ ghost use Rattle.desk.specs.History.{Legal, NoneAbove};
 ghost use Rattle.ms_calls.specs.Asked.{CameAs, IfClient, IfPlain};
 ghost use Rattle.ms_calls.specs.Replies.{CanReply};
 ghost use Rattle.ms_calls.specs.declared.method.Method.{Method};
-ghost use Rattle.ms_session.specs.Turns.{Did, Files, IsReplyTo};
+ghost use Rattle.ms_session.specs.Turns.{AnswersCall, Did, Files, IsReplyTo};
 
 use cat_types::{Answer, Call, NoMemory, Reply, Step};
 use desk::Desk;
@@ -62,13 +62,24 @@ fn call_desk<D: Desk, C: Clock>(
     reply_of(alloc, desk.step(Step::Client { call, moment }))
 }
 
-// The reply that a desk's answer makes.
+// The reply that a desk's answer to a call makes.
 fn reply_of(alloc: Global, answer: Answer) -> Result<Reply, NoMemory>
+    requires { AnswersCall answer }
     ensures { IfOk result (IsReplyTo answer) }
 {
     match answer {
         Answer::Reply(reply) => Ok(reply),
         Answer::StoreFault => store_fault(alloc),
         Answer::NoMemory => out_of_memory(alloc),
+        Answer::Began { .. }
+        | Answer::Table(_)
+        | Answer::NoTable
+        | Answer::Parts { .. }
+        | Answer::Sealed(_)
+        | Answer::Events { .. }
+        | Answer::Ended
+        | Answer::DumpRefused(_)
+        | Answer::Kept(_)
+        | Answer::NotOpen => unreachable!(),
     }
 }

@@ -1,0 +1,5 @@
+pub mod Refusals
+pub mod Opened
+pub mod Files
+pub mod Turns
+pub mod Dumps

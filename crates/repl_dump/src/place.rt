@@ -1,0 +1,27 @@
+//! Where a dump stands.
+
+use cat_types::{Text, Texts};
+
+/// The next thing that a dump asks for.
+#[derive(Drop)]
+pub enum Place {
+    /// The next table after this name.
+    Tables(Option<Text>),
+    /// The next partitions of the table with this name and born, after these values.
+    Parts {
+        table: Text,
+        born: u64,
+        after: Option<Texts>,
+    },
+    Seal,
+    /// The next events after this number.
+    Events(u64),
+    End,
+}
+
+impl Place {
+    /// Whether nothing is left to be asked for but the end.
+    pub fn is_end(&self) -> bool {
+        matches!(self, Place::End)
+    }
+}
