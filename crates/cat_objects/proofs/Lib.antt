@@ -1,6 +1,11 @@
 pub mod Fitting
+pub mod Walking
+pub mod Found
+pub mod Lawfully
 pub mod Maps
 pub mod Editing
 pub mod PlacedBack
 pub mod Putting
+pub mod Rising
+pub mod Seeing
 pub mod Taking

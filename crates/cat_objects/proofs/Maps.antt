@@ -235,7 +235,7 @@ module _ {K X : Type 0} (R : K → K → Ordering) (laws : IsTotalOrder R) where
   changed_inserted (e ∷ es) k v f none = changed_by (R k e.0) k v f e es refl none (changed_inserted es k v f)
 
   -- the same is found at equal keys
-  same_found : (n k : K) (es : List (K × X)) → R n k ≡ Equal → lookup (is_at (R n)) es ≡ lookup (is_at (R k)) es
+  pub same_found : (n k : K) (es : List (K × X)) → R n k ≡ Equal → lookup (is_at (R n)) es ≡ lookup (is_at (R k)) es
   same_found n k [] is = refl
   same_found n k (e ∷ es) is =
       ap (λ o. cond (is_eq o) (Some e.1) (lookup (is_at (R n)) es)) (laws.congr n k e.0 is)

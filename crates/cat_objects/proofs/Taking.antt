@@ -65,7 +65,7 @@ fit_placeable cat db (DropPart name born values) alone is = refl
 fit_placeable cat db (MovePart name born values to rec) alone is =
     last_of (has_part cat db name values) (not (has_part cat db name to)) (last_of (can_hold born to (table cat db name)) (has_part cat db name values && not (has_part cat db name to)) is)
 
-is_free : (b : Bool) → not b ≡ true → b ≡ false
+pub is_free : (b : Bool) → not b ≡ true → b ≡ false
 is_free true is = absurd cc
 is_free false is = refl
 

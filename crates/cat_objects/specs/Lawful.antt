@@ -7,7 +7,7 @@ use Rattle.cat_types.specs.declared.changes.Op.TheVariants.{DropDb, DropPart, Dr
 use Rattle.cat_values.specs.Names.{is_object_name}
 use Rattle.cat_values.specs.declared.records.TableRec.{TableRec}
 use Rattle.cat_objects.specs.Catalogue.{Catalogue, database, has_database, has_part, has_table, table, tables_of}
-use Rattle.cat_objects.specs.Changes.{fits_op, fits_over, is_drop_db, is_table_born, is_valid_value}
+use Rattle.cat_objects.specs.Changes.{fits_op, fits_ops, fits_over, is_drop_db, is_table_born, is_valid_value}
 use Rattle.cat_objects.specs.declared.held.HeldTable.{HeldTable}
 
 -- the names of tables in an operation
@@ -57,6 +57,10 @@ finds cat db (PutPart name born values rec) = is_table_born born (table cat db n
 finds cat db (DropPart name born values) = is_table_born born (table cat db name) && has_part cat db name values
 finds cat db (MovePart name born values to rec) = is_table_born born (table cat db name) && has_part cat db name values
 
+-- whether none of these operations drops a database
+abbrev pub keep_database : List Op → Bool
+keep_database ops = list_all (λ op. not (is_drop_db op)) ops
+
 -- ---- laws
 
 -- in a database whose tables have object names, an operation that fits is lawful
@@ -70,3 +74,7 @@ FittingFinds = (cat : Catalogue) (db : List ℕ) (op : Op) → fits_op cat db op
 -- an operation of a database that stays fits where it is lawful and finds what it needs
 abbrev pub LawfulThatFindsFits : Type 0
 LawfulThatFindsFits = (cat : Catalogue) (db : List ℕ) (op : Op) → is_drop_db op ≡ false → is_lawful cat db op ≡ true → finds cat db op ≡ true → fits_op cat db op ≡ true
+
+-- operations that fit, each after those before it, drop no database
+abbrev pub FittingKeeps : Type 0
+FittingKeeps = (cat : Catalogue) (db : List ℕ) (born : ℕ) (ops : List Op) → fits_ops cat db born ops ≡ true → keep_database ops ≡ true

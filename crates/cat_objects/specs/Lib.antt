@@ -3,3 +3,4 @@ pub mod Changes
 pub mod Lawful
 pub mod Parts
 pub mod Placing
+pub mod Seen

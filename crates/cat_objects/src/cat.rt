@@ -127,8 +127,8 @@ impl Cat {
         Some((held.born, &held.rec))
     }
 
-    /// The first database whose name is above this one, which is in lower case, or the first of all,
-    /// with its born and its record. It takes no memory.
+    /// The first database whose name is above this one, or the first of all, with its born and its
+    /// record. It takes no memory.
     pub fn db_after(&self, after: Option<&Text>) -> Option<(&Text, u64, &DbRec)>
         ensures { option_map (λ found. (found.0.now, found.1, found.2.now)) result ≡ option_map shown_db (first_after (slice_cmp nat_cmp) (option_copied after.entry) self.now.databases) }
     {
@@ -137,7 +137,7 @@ impl Cat {
     }
 
     /// The first table of a database whose name is above this one, or the first of all, with its born
-    /// and its record; none where the database isn't there. Both names are in lower case. It takes no
+    /// and its record; none where the database isn't there. Its name is in lower case. It takes no
     /// memory.
     pub fn table_after(&self, db: &Text, after: Option<&Text>) -> Option<(&Text, u64, &TableRec)>
         ensures { option_map (λ found. (found.0.now, found.1, found.2.now)) result ≡ option_map shown_table (first_after (slice_cmp nat_cmp) (option_copied after.entry) (tables_of (database self.now db.now))) }

@@ -3,12 +3,15 @@
 
 mod cat;
 mod edits;
+mod following;
 mod held;
+mod lawful;
 mod laws;
 mod part_edits;
 mod parts;
 mod placing;
 mod replaying;
+mod seen;
 
 pub use cat::{Cat, LAST_EVENT};
 pub use held::{HeldDb, HeldTable};

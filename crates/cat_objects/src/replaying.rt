@@ -342,7 +342,7 @@ impl Cat {
     }
 
     // Whether a table may have this name and this record.
-    fn is_lawful_table(&self, name: &Text, rec: &TableRec) -> Result<bool, NoMemory>
+    pub(crate) fn is_lawful_table(&self, name: &Text, rec: &TableRec) -> Result<bool, NoMemory>
         ensures { IfOk result (λ lawful. lawful ≡ is_lawful_table name.now rec.now) }
     {
         if !object_name(name) {
@@ -373,7 +373,7 @@ fn only_drops(ops: &Ops) -> bool
 }
 
 // Whether a partition may have each of these values.
-fn are_valid(values: &Texts) -> bool
+pub(crate) fn are_valid(values: &Texts) -> bool
     ensures { result ≡ list_all is_valid_value values.now }
 {
     for value in values.as_slice() {
