@@ -1,5 +1,6 @@
 //! Calls and steps in words.
 
+use crate::dumping::dump_step;
 use crate::outcome::words_of;
 use crate::phases::number_of;
 use crate::table_calls::table_call_of;
@@ -75,9 +76,13 @@ fn next_notification(words: &str) -> Result<Call, Unable> {
 
 impl Worded for Step {
     fn of(alloc: Global, words: &str) -> Result<Step, Unable> {
-        let (moment, rest) = words_of(words);
-        let moment = number_of(moment)?;
-        let call = Call::of(alloc, rest)?;
-        Ok(Step::Client { call, moment })
+        let (first, rest) = words_of(words);
+        match first.parse::<u64>() {
+            Ok(moment) => {
+                let call = Call::of(alloc, rest)?;
+                Ok(Step::Client { call, moment })
+            }
+            Err(_) => dump_step(alloc, first, rest),
+        }
     }
 }

@@ -5,6 +5,7 @@
 mod again;
 mod calls;
 mod creation;
+mod dumping;
 mod lists;
 mod maps;
 mod one_by_one;

@@ -1,7 +1,9 @@
 //! Replies and answers in words.
 
+use crate::dumping::{dump_answer, events_of};
 use crate::outcome::words_of;
 use crate::part_calls::part_of;
+use crate::phases::number_of;
 use crate::stat_calls::named_stats_of;
 use crate::table_calls::names_of;
 use crate::texts::texts_of;
@@ -9,9 +11,8 @@ use crate::worded::{Worded, owned_by, table_owned_by, text_of};
 use cat_types::{
     Answer, Column, Columns, ListOf, MapOf, NamedTable, Params, Parts, Reply, Tables, Text,
 };
-use change_codec::get_events;
 use std::alloc::Global;
-use table_cases::{Unable, bytes_of};
+use table_cases::Unable;
 
 impl Worded for Reply {
     fn of(alloc: Global, words: &str) -> Result<Reply, Unable> {
@@ -29,7 +30,8 @@ impl Worded for Reply {
             "parts" => parts_of(alloc, rest),
             "stats" => Ok(Reply::Stats(named_stats_of(alloc, rest)?)),
             "column_stats" => column_stats_of(alloc, rest),
-            "events" => events_of(alloc, rest),
+            "events" => Ok(Reply::Events(events_of(alloc, rest)?)),
+            "dumped" => dumped_of(alloc, rest),
             "refused" => refused_of(alloc, rest),
             _ => Err(Unable::Form),
         }
@@ -117,13 +119,11 @@ fn column_stats_of(alloc: Global, words: &str) -> Result<Reply, Unable> {
     })
 }
 
-// Events, by the digits of their bytes.
-fn events_of(alloc: Global, digits: &str) -> Result<Reply, Unable> {
-    let bytes = bytes_of(alloc, digits)?;
-    match get_events(alloc, &bytes) {
-        Ok(events) => Ok(Reply::Events(events)),
-        Err(_) => Err(Unable::Form),
-    }
+// A dump, by its folder and its last event.
+fn dumped_of(alloc: Global, words: &str) -> Result<Reply, Unable> {
+    let (folder, end) = words_of(words);
+    let end = number_of(end)?;
+    Ok(Reply::Dumped(Text::of(alloc, folder)?, end))
 }
 
 // A refusal, by its number and text.
@@ -135,10 +135,10 @@ fn refused_of(alloc: Global, words: &str) -> Result<Reply, Unable> {
 
 impl Worded for Answer {
     fn of(alloc: Global, words: &str) -> Result<Answer, Unable> {
-        match words {
-            "store_fault" => Ok(Answer::StoreFault),
-            "no_memory" => Ok(Answer::NoMemory),
-            _ => Ok(Answer::Reply(Reply::of(alloc, words)?)),
+        let (kind, rest) = words_of(words);
+        match kind {
+            "reply" => Ok(Answer::Reply(Reply::of(alloc, rest)?)),
+            _ => dump_answer(alloc, kind, rest),
         }
     }
 }
