@@ -1,5 +1,5 @@
 -- What holds of all manifests and of the names of folders.
-use Rattle.std.specs.Prelude.{◌≡◌, ⊥, ℕ, List, length}
+use Rattle.std.specs.Prelude.{◌≡◌, ℕ, List}
 use Rattle.dump_manifest.specs.declared.manifest.Manifest.{Manifest}
 use Rattle.dump_manifest.specs.Manifests.{Fits, IsDigest, IsWord, dir_text, manifest_code}
 use Rattle.dump_manifest.specs.Reading.{Stops}

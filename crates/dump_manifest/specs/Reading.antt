@@ -1,5 +1,5 @@
 -- Where a text stops to be a manifest: at the first line that may not stand behind those before it.
-use Rattle.std.specs.Prelude.{◌≡◌, ◌≢◌, ◌⊎◌, ⊤, ⊥, ◌+◌, ℕ, suc, ◌<◌, ◌≤◌, ◌==◌, List, [], ◌∷◌, ◌++◌, Bool, true, false, cond, Option, None, Some, codes, decimal, length}
+use Rattle.std.specs.Prelude.{◌≡◌, ◌≢◌, ◌⊎◌, ⊤, ◌+◌, ℕ, suc, ◌<◌, ◌≤◌, ◌==◌, List, [], ◌∷◌, ◌++◌, Bool, true, false, cond, Option, None, Some, codes, decimal, length}
 use Rattle.hex.specs.Hex.{encode_lower}
 use Rattle.dump_manifest.specs.declared.manifest.FileLine.{FileLine}
 use Rattle.dump_manifest.specs.declared.manifest.ManifestFault.{ManifestFault}

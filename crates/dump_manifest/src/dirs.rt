@@ -1,6 +1,7 @@
 //! The name of a dump's folder.
 
-ghost use Rattle.std.specs.Prelude.{◌≡◌, IfOk};
+ghost use Rattle.std.specs.Prelude.{◌≡◌, ◌++◌, ℕ, List, codes, decimal, IfOk, IfSome, IsNone};
+ghost use Rattle.hex.specs.Hex.{encode_lower};
 ghost use Rattle.dump_manifest.specs.Manifests.{dir_text};
 ghost use Rattle.dump_manifest.specs.Reading.{IsReadAs, dir_of};
 
@@ -41,6 +42,10 @@ pub fn read_dir(dir: &str) -> Option<([u8; 16], u64)>
 
 // The id that these are the digits of, and the number behind a dash.
 fn read_parts(digits: &[u8], dump: &[u8]) -> Option<([u8; 16], u64)>
+    ensures some { IfSome result (λ found. dir_of.Fits found
+        × (digits.now ≡ encode_lower found.0) × (dump.now ≡ codes "-" ++ decimal found.1)) }
+    ensures none { IsNone result → (source : List ℕ) (n : ℕ) → dir_of.Fits (source, n)
+        → digits.now ≡ encode_lower source → dump.now ≡ codes "-" ++ decimal n → ⊥ }
 {
     let source = source_of(digits)?;
     let dump = read_number(dump, b"-")?;
