@@ -5,3 +5,5 @@ pub mod Cutting
 pub mod Pieces
 pub mod Names
 pub mod Places
+pub mod Tails
+pub mod Rows

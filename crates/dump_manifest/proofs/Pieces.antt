@@ -88,3 +88,10 @@ front_uncut kind text plain cut = λ value behind fits same.
 
 pub number_lacks : (word : List ℕ) → lacks_lf word ≡ true → Lacks (number_line word)
 number_lacks word plain = λ value fits. lacks_both word (decimal value) plain (decimal_lacks value fits)
+
+-- a word that is spelled, and then a line or a value
+pub word_line_is : (a b spelled text mid : List ℕ) (o : Option (List ℕ)) → spelled ≡ b → text ≡ a ++ mid → Follows (with_lf spelled) mid o → Follows (with_lf (a ++ b)) text o
+word_line_is a b spelled text mid o is first second = word_line a b text mid o first (subst (λ s. Follows (with_lf s) mid o) is second)
+
+pub word_value_is : {T : Type 0} (word spelled : List ℕ) (kind : Kind T) (text mid : List ℕ) (o : Option T) → spelled ≡ word → text ≡ spelled ++ mid → IsReadAs kind mid o → IsReadAs (prefixed word kind) text o
+word_value_is word spelled kind text mid o is first second = word_value word kind text mid o (first ∙ ap (λ w. w ++ mid) is) second

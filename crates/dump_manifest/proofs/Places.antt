@@ -6,7 +6,7 @@ use Rattle.dump_manifest.specs.Manifests.{IsWord, begin_line, born_line, db_line
 use Rattle.dump_manifest.specs.Pieces.{Follows, Fronts, begin_of, born_of, cut_line, db_of, end_of, kind_of, lacks_lf}
 use Rattle.dump_manifest.specs.Reading.{HasStopped, IsStuck, Kind, MayFollow, MayStand, Place, at_begin, at_born, at_db, at_dump, at_end, at_file, at_kind, at_last, at_source, at_version, number_line}
 use Rattle.dump_manifest.proofs.Pieces.{decimal_lacks, lacks_both, one_line}
-use Rattle.dump_manifest.proofs.Words.{behind_same}
+use Rattle.dump_manifest.proofs.Words.{behind_same, text_more}
 
 -- ---- stops
 
@@ -42,7 +42,7 @@ line_text line text behind rest lines first second = first ∙ (ap (λ t. with_l
 pub four_lines : (a b c d text ta tb tc rest : List ℕ) → text ≡ with_lf a ++ ta → ta ≡ with_lf b ++ tb → tb ≡ with_lf c ++ tc → tc ≡ with_lf d ++ rest
     → text ≡ lines_text (a ∷ b ∷ c ∷ d ∷ []) ++ rest
 four_lines a b c d text ta tb tc rest fa fb fc fd =
-    line_text a text ta rest _ fa (line_text b ta tb rest _ fb (line_text c tb tc rest _ fc (line_text d tc rest rest [] fd refl)))
+    line_text a text ta rest (b ∷ c ∷ d ∷ []) fa (line_text b ta tb rest (c ∷ d ∷ []) fb (line_text c tb tc rest (d ∷ []) fc (line_text d tc rest rest [] fd refl)))
 
 -- ---- places where nothing goes on
 
@@ -92,12 +92,8 @@ unfolding kind_line
 kind_none text one other = λ b rest fits same. by b rest same
   where
     by : (b : Bool) (rest : List ℕ) → text ≡ with_lf (kind_line b) ++ rest → ⊥
-    unfolding kind_line
     by true rest same = one rest same
     by false rest same = other rest same
-
-pub kind_some : (text rest : List ℕ) (b : Bool) (word : List ℕ) → kind_line b ≡ word → text ≡ with_lf word ++ rest → text ≡ with_lf (kind_line b) ++ rest
-kind_some text rest b word is same = same ∙ ap (λ w. with_lf w ++ rest) (sym is)
 
 -- a line tells one number
 pub one_number : (word text x y : List ℕ) (m n : ℕ) → lacks_lf word ≡ true → m < 2 ^ 64 → n < 2 ^ 64 → text ≡ with_lf (word ++ decimal m) ++ x → text ≡ with_lf (word ++ decimal n) ++ y → m ≡ n
@@ -120,3 +116,11 @@ end_outside begin end text rest small told outside = λ n behind fits same.
 pub end_some : (end : ℕ) (text rest : List ℕ) → text ≡ with_lf (codes "end " ++ decimal end) ++ rest → text ≡ with_lf (end_line end) ++ rest
 unfolding end_line
 end_some end text rest same = same
+
+-- ---- writing
+
+pub written : (lines : List (List ℕ)) (line old new : List ℕ) → old ≡ lines_text lines → new ≡ old ++ with_lf line → new ≡ lines_text (lines ++ line ∷ [])
+written lines line old new so_far more = more ∙ (ap (λ t. t ++ with_lf line) so_far ∙ sym (text_more lines line))
+
+pub written_all : (lines shown more : List (List ℕ)) (old new : List ℕ) → old ≡ lines_text lines → new ≡ old ++ lines_text shown → shown ≡ more → new ≡ lines_text (lines ++ more)
+written_all lines shown more old new so_far same is = same ∙ (ap (λ ls. old ++ lines_text ls) is ∙ (ap (λ t. t ++ lines_text more) so_far ∙ sym (text_both lines more)))

@@ -1,8 +1,8 @@
 -- Pieces at the front of a text: a word, a line, and the line of a value.
-use Rattle.std.specs.Prelude.{◌≡◌, ◌≢◌, ⊤, ℕ, ◌≤◌, ◌==◌, List, [], ◌∷◌, ◌++◌, Bool, true, false, cond, Option, None, Some, codes, decimal, length}
+use Rattle.std.specs.Prelude.{◌≡◌, ◌≢◌, ⊤, ℕ, suc, ◌≤◌, ◌==◌, List, [], ◌∷◌, ◌++◌, Bool, true, false, cond, Option, None, Some, codes, decimal}
 use Rattle.hex.specs.Hex.{encode_lower}
 use Rattle.dump_manifest.specs.declared.manifest.FileLine.{FileLine}
-use Rattle.dump_manifest.specs.Manifests.{IsDigest, IsLowerName, IsWord, begin_line, born_line, db_line, end_line, kind_line, with_lf}
+use Rattle.dump_manifest.specs.Manifests.{HasItems, IsDigest, IsLowerName, IsWord, begin_line, born_line, db_line, end_line, event_name, item_name, kind_line, with_lf}
 use Rattle.dump_manifest.specs.Reading.{Kind}
 
 -- the text begins with this word, and the rest follows; or it doesn't begin so
@@ -14,6 +14,9 @@ Follows word text None = (rest : List ℕ) → text ≢ word ++ rest
 abbrev pub Fronts : {T : Type 0} → Kind T → List ℕ → Option (T × List ℕ) → Type 0
 Fronts kind text (Some front) = kind.Fits front.0 × (text ≡ with_lf (kind.code front.0) ++ front.1)
 Fronts {T} kind text None = (value : T) (rest : List ℕ) → kind.Fits value → text ≢ with_lf (kind.code value) ++ rest
+
+abbrev pub name_of : Kind (List ℕ)
+name_of = record { Fits = IsLowerName; code = λ name. name }
 
 abbrev pub db_of : Kind (List ℕ)
 db_of = record { Fits = IsLowerName; code = db_line }
@@ -59,3 +62,35 @@ cut_by false b bytes (Some cut) = Some (b ∷ cut.0, cut.1)
 abbrev pub cut_line : List ℕ → Option (List ℕ × List ℕ)
 cut_line [] = None
 cut_line (b ∷ bytes) = cut_by (b == 10) b bytes (cut_line bytes)
+
+-- ---- the next file
+
+-- a file of items may come in a bootstrap dump, where no file of events stands before; and one of events behind all those of items
+abbrev pub MayCome : Bool → ℕ → ℕ → Bool → Type 0
+MayCome bootstrap items events true = (bootstrap ≡ true) × (events ≡ 0)
+MayCome bootstrap items events false = HasItems bootstrap items
+
+-- its name, and how many files of items there are with it
+abbrev pub next_name : Bool → ℕ → ℕ → List ℕ
+next_name true items events = item_name items
+next_name false items events = event_name events
+
+abbrev pub items_after : Bool → ℕ → ℕ
+items_after true items = suc items
+items_after false items = items
+
+-- the line of a file with this name
+abbrev pub line_of : List ℕ → ℕ → List ℕ → List ℕ
+line_of name length digest = codes "file " ++ (name ++ (codes " " ++ (decimal length ++ (codes " " ++ encode_lower digest))))
+
+abbrev pub came : Bool → ℕ → ℕ → Bool → Kind (ℕ × List ℕ)
+came bootstrap items events is_item = record {
+  Fits = λ p. MayCome bootstrap items events is_item × IsWord p.0 × IsDigest 32 p.1;
+  code = λ p. line_of (next_name is_item items events) p.0 p.1;
+}
+
+abbrev pub next_of : Bool → ℕ → ℕ → Kind (Bool × (ℕ × List ℕ))
+next_of bootstrap items events = record {
+  Fits = λ p. (came bootstrap items events p.0).Fits p.1;
+  code = λ p. (came bootstrap items events p.0).code p.1;
+}

@@ -1,8 +1,9 @@
 //! The lines of files.
 
-ghost use Rattle.std.specs.Prelude.{◌≡◌, ◌++◌, ℕ, List, IfSome, IsNone, codes, decimal, option_map, true};
+ghost use Rattle.std.specs.Prelude.{◌≡◌, ◌++◌, ℕ, List, IfSome, IsNone, IsTrue, ◌↔◌, codes, decimal, option_map, true, false};
 ghost use Rattle.hex.specs.Hex.{encode_lower};
-ghost use Rattle.dump_manifest.specs.Pieces.{Fronts, lacks_lf, named, prefixed, spaced, tail_of};
+ghost use Rattle.dump_manifest.specs.Manifests.{HasItems};
+ghost use Rattle.dump_manifest.specs.Pieces.{Fronts, came, lacks_lf, named, next_of, prefixed, spaced, tail_of};
 ghost use Rattle.dump_manifest.specs.Reading.{IsReadAs};
 
 use crate::lines::{split_line, strip};
@@ -81,5 +82,54 @@ fn read_parts(digits: &[u8], digest: &[u8]) -> Option<Tail>
             let digest = digest_of(hex)?;
             Some((length, digest))
         }
+    }
+}
+
+/// Whether a file is of items, and its length and digest.
+pub type Found = (bool, Tail);
+
+/// The file that is next where so many of items and of events stand before, and what follows its line.
+pub fn take_file(text: &[u8], bootstrap: bool, items: u64, events: u64) -> Option<(Found, &[u8])>
+    ensures { Fronts (next_of bootstrap items events) text.now (option_map (λ front. (front.0, front.1.now)) result) }
+{
+    match take_item(text, bootstrap, items, events) {
+        Some((tail, rest)) => Some(((true, tail), rest)),
+        None => match take_event(text, bootstrap, items, events) {
+            Some((tail, rest)) => Some(((false, tail), rest)),
+            None => None,
+        },
+    }
+}
+
+// A file of items, where no file of events stands before.
+fn take_item(text: &[u8], bootstrap: bool, items: u64, events: u64) -> Option<(Tail, &[u8])>
+    ensures { Fronts (came bootstrap items events true) text.now (option_map (λ front. (front.0, front.1.now)) result) }
+{
+    if bootstrap && events == 0 {
+        take_named(text, b"file i", items)
+    } else {
+        None
+    }
+}
+
+// A file of events.
+fn take_event(text: &[u8], bootstrap: bool, items: u64, events: u64) -> Option<(Tail, &[u8])>
+    ensures { Fronts (came bootstrap items events false) text.now (option_map (λ front. (front.0, front.1.now)) result) }
+{
+    if has_items(bootstrap, items) {
+        take_named(text, b"file e", events)
+    } else {
+        None
+    }
+}
+
+/// Whether so many files of items are all that a dump has.
+pub fn has_items(bootstrap: bool, items: u64) -> bool
+    ensures { IsTrue result ↔ HasItems bootstrap items }
+{
+    if bootstrap {
+        items > 0
+    } else {
+        items == 0
     }
 }

@@ -3,7 +3,7 @@
 ghost use Rattle.std.specs.Prelude.{◌≡◌, ◌++◌, ◌≤◌, ◌<◌, ◌^◌, ℕ, List, MatchResult, codes, option_map};
 ghost use Rattle.std.specs.Option.{option_copied};
 ghost use Rattle.dump_manifest.specs.Manifests.{IsLowerName, IsWord, dump_line, lines_text, origin_lines, source_line, span_lines, version_line, with_lf};
-ghost use Rattle.dump_manifest.specs.Pieces.{Follows, Fronts, begin_of, born_of, db_of, end_of, kind_of};
+ghost use Rattle.dump_manifest.specs.Pieces.{Follows, Fronts, begin_of, born_of, db_of, end_of, kind_of, name_of};
 ghost use Rattle.dump_manifest.specs.Reading.{HasStopped, IsReadAs, at_file, at_kind, at_version};
 
 use crate::lines::{split_line, strip, strip_line, take_number};
@@ -115,17 +115,24 @@ fn take_db(text: &[u8]) -> Option<(&str, &[u8])>
 fn read_db(line: &[u8]) -> Option<&str>
     ensures { IsReadAs db_of line.now (option_copied result) }
 {
-    let Some(name) = strip(line, b"db ") else {
-        return None;
-    };
-    let name = match str::from_utf8(name) {
-        Ok(name) => name,
-        Err(_) => return None,
-    };
-    if is_lower_name(name.as_bytes()) {
-        Some(name)
-    } else {
-        None
+    match strip(line, b"db ") {
+        None => None,
+        Some(name) => read_name(name),
+    }
+}
+
+fn read_name(name: &[u8]) -> Option<&str>
+    ensures { IsReadAs name_of name.now (option_copied result) }
+{
+    match str::from_utf8(name) {
+        Err(_) => None,
+        Ok(text) => {
+            if is_lower_name(name) {
+                Some(text)
+            } else {
+                None
+            }
+        }
     }
 }
 
@@ -153,11 +160,13 @@ fn take_end(text: &[u8], begin: u64) -> Option<(u64, &[u8])>
     match take_number(text, b"end ") {
         None => None,
         Some((end, rest)) => {
-            if end < begin || end > HIGHEST_END {
-                None
-            } else {
-                Some((end, rest))
+            if end < begin {
+                return None;
             }
+            if end > HIGHEST_END {
+                return None;
+            }
+            Some((end, rest))
         }
     }
 }

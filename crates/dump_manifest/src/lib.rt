@@ -7,6 +7,7 @@ mod files;
 mod heads;
 mod laws;
 mod lines;
+mod lists;
 mod manifest;
 mod reading;
 mod values;

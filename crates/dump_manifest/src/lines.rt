@@ -12,7 +12,10 @@ use crate::values::read_number;
 pub fn strip<'a>(text: &'a [u8], word: &[u8]) -> Option<&'a [u8]>
     ensures { Follows word.now text.now (option_copied result) }
 {
-    text.strip_prefix(word)
+    match text.strip_prefix(word) {
+        Some(rest) => Some(rest),
+        None => None,
+    }
 }
 
 /// What follows this line and its LF.
