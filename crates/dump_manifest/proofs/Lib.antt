@@ -7,3 +7,6 @@ pub mod Names
 pub mod Places
 pub mod Tails
 pub mod Rows
+pub mod Apart
+pub mod Readings
+pub mod Whole

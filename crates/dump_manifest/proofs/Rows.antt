@@ -14,11 +14,11 @@ pub line_is : (f : FileLine) → file_line f ≡ line_of f.name f.length f.diges
 unfolding file_line
 line_is f = refl
 
-events_after : Bool → ℕ → ℕ
+abbrev pub events_after : Bool → ℕ → ℕ
 events_after true events = events
 events_after false events = suc events
 
-came_stands : (source : List ℕ) (dump : ℕ) (b : Bool) (items events : ℕ) (k : Bool) (f : FileLine) → MayCome b items events k → IsFile f → f.name ≡ next_name k items events
+pub came_stands : (source : List ℕ) (dump : ℕ) (b : Bool) (items events : ℕ) (k : Bool) (f : FileLine) → MayCome b items events k → IsFile f → f.name ≡ next_name k items events
     → MayStand source dump (at_file b items events) (file_line f) (at_file b (items_after k items) (events_after k events))
 came_stands source dump b items events true f may fits name = inl (f, fits, refl, inl (may.0, may.1, name, refl))
 came_stands source dump b items events false f may fits name = inl (f, fits, refl, inr (may, name, refl))
@@ -29,10 +29,10 @@ no_file : (source : List ℕ) (dump : ℕ) (b : Bool) (items events : ℕ) (text
     → (HasItems b items → (rest : List ℕ) → text ≡ with_lf done_line ++ rest → ⊥)
     → MayStand source dump (at_file b items events) line next → text ≡ with_lf line ++ behind → ⊥
 no_file source dump b items events text line behind next none no_done (inl (f, fits, is, inl (boot, first, name, place))) same =
-    none (true, (f.length, f.digest)) behind ((boot, first), fits)
+    none (true, (f.length, f.digest)) behind ((boot, first), fits.0, fits.1)
       (same ∙ ap (λ l. with_lf l ++ behind) (is ∙ (line_is f ∙ ap (λ n. line_of n f.length f.digest) name)))
 no_file source dump b items events text line behind next none no_done (inl (f, fits, is, inr (has, name, place))) same =
-    none (false, (f.length, f.digest)) behind (has, fits)
+    none (false, (f.length, f.digest)) behind (has, fits.0, fits.1)
       (same ∙ ap (λ l. with_lf l ++ behind) (is ∙ (line_is f ∙ ap (λ n. line_of n f.length f.digest) name)))
 no_file source dump b items events text line behind next none no_done (inr (has, is, place)) same = no_done has behind (same ∙ ap (λ l. with_lf l ++ behind) is)
 
@@ -56,7 +56,7 @@ pub record SoFar (b : Bool) (text : List ℕ) (files : List FileLine) (items : �
 pub so_far_none : (b : Bool) (text : List ℕ) → SoFar b text [] 0 text
 so_far_none b text = record { events = 0; count = refl; split = refl; fit = All-nil IsFile; names = refl; follow = λ source dump. refl }
 
-map_more : {A B : Type 0} (f : A → B) (xs : List A) (x : A) → map f (xs ++ x ∷ []) ≡ map f xs ++ f x ∷ []
+pub map_more : {A B : Type 0} (f : A → B) (xs : List A) (x : A) → map f (xs ++ x ∷ []) ≡ map f xs ++ f x ∷ []
 map_more f [] x = refl
 map_more f (y ∷ xs) x = ap (λ ys. f y ∷ ys) (map_more f xs x)
 
@@ -74,11 +74,13 @@ counted true items events = omega arith
 counted false items events = omega arith
 
 -- one file more
-pub so_far_more : (b : Bool) (text : List ℕ) (files : List FileLine) (items events : ℕ) (rest after : List ℕ) (k : Bool) (length_of : ℕ) (digest : List ℕ) (f : FileLine)
-    → SoFar b text files items rest → events ≡ length files - items
+pub so_far_more : (b : Bool) (text : List ℕ) (files files' : List FileLine) (items items' events events' : ℕ) (rest after : List ℕ) (k : Bool) (length_of : ℕ) (digest : List ℕ) (f : FileLine)
+    → SoFar b text files items rest → events ≡ length files - items → events' ≡ length files - items
     → (next_of b items events).Fits (k, (length_of, digest)) → rest ≡ with_lf ((next_of b items events).code (k, (length_of, digest))) ++ after
-    → f.name ≡ next_name k items events → f.length ≡ length_of → f.digest ≡ digest → SoFar b text (files ++ f ∷ []) (items_after k items) after
-so_far_more b text files items events rest after k length_of digest f so is fits begins name long sum =
+    → f.name ≡ next_name k items events' → f.length ≡ length_of → f.digest ≡ digest
+    → files' ≡ files ++ f ∷ [] → items' ≡ items_after k items → SoFar b text files' items' after
+so_far_more b text files files' items items' events events' rest after k length_of digest f so is is' fits begins called' long sum all count' =
+    let name : f.name ≡ next_name k items events = called' ∙ ap (λ e. next_name k items e) (is' ∙ sym is) in
     let counts = so.count in
     let same : events ≡ so.events = omega (arith, counts, is) in
     let may : MayCome b items so.events k = subst (λ e. MayCome b items e k) same fits.0 in
@@ -89,7 +91,7 @@ so_far_more b text files items events rest after k length_of digest f so is fits
     let total = counted k items so.events in
     let more = length-append files (f ∷ []) in
     let lines = map_more file_line files f in
-    record {
+    let made : SoFar b text (files ++ f ∷ []) (items_after k items) after = record {
       events = events_after k so.events;
       count = omega (arith, counts, total, more);
       split = so.split ∙ (ap (λ t. lines_text (map file_line files) ++ t) (begins ∙ ap (λ l. with_lf l ++ after) line)
@@ -100,7 +102,8 @@ so_far_more b text files items events rest after k length_of digest f so is fits
       follow = λ source dump. subst (λ ls. MayFollow source dump (at_file b 0 0) ls (at_file b (items_after k items) (events_after k so.events))) (sym lines)
         (follow_both source dump (at_file b 0 0) (at_file b items so.events) (at_file b (items_after k items) (events_after k so.events)) (map file_line files) (file_line f ∷ [])
           (so.follow source dump) (at_file b (items_after k items) (events_after k so.events), came_stands source dump b items so.events k f may file called, refl));
-    }
+    } in
+    subst (λ fs. SoFar b text fs items' after) (sym all) (subst (λ n. SoFar b text (files ++ f ∷ []) n after) (sym count') made)
 
 -- nothing goes on behind the files so far
 pub so_far_stops : (b : Bool) (text : List ℕ) (files : List FileLine) (items events : ℕ) (rest : List ℕ) → SoFar b text files items rest → events ≡ length files - items
@@ -124,3 +127,10 @@ so_far_ends b text files items rest after so has last = (
     ∙ ap (λ t. t ++ after) (sym (text_more (map file_line files) done_line)))),
   λ source dump. follow_both source dump (at_file b 0 0) (at_file b items so.events) at_last (map file_line files) (done_line ∷ []) (so.follow source dump) (at_last, inr (has, refl, refl), refl),
 )
+
+-- a line with its LF is shorter than the text that it begins
+pub shorter : (line text after : List ℕ) → text ≡ with_lf line ++ after → length after < length text
+shorter line text after same =
+    let long = ap (λ t. length t) same ∙ length-append (with_lf line) after in
+    let lf = length-append line (10 ∷ []) in
+    omega (arith, long, lf)

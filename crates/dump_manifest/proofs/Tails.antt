@@ -1,10 +1,10 @@
 -- The end of a file's line: its length and its digest.
-use Rattle.std.proofs.Common.{◌≡◌, refl, sym, ap, ◌∙◌, rules, arith, ℕ, suc, ◌+◌, ◌*◌, ◌/◌, ◌%◌, ◌<◌, ◌^◌, ◌==◌, length, take, drop, slice_index, List, [], ◌∷◌, ◌++◌, true, false, Option, None, Some, codes, decimal, IfSome, IsNone}
+use Rattle.std.proofs.Common.{◌≡◌, refl, sym, ap, ◌∙◌, rules, arith, ℕ, suc, ◌+◌, ◌*◌, ◌/◌, ◌%◌, ◌<◌, ◌^◌, ◌==◌, Bool, length, take, drop, slice_index, List, [], ◌∷◌, ◌++◌, true, false, Option, None, Some, codes, decimal, IfSome, IsNone}
 use Rattle.std.proofs.lemmas.List.{length-append, take-append-drop}
 use Rattle.hex.specs.Hex.{IsBytes, encode_lower, encode_with, hex_digit_value, lower_digits}
 use Rattle.hex.proofs.HexLemmas.{IsDigits-lower_digits}
-use Rattle.dump_manifest.specs.Manifests.{IsDigest, IsWord}
-use Rattle.dump_manifest.specs.Pieces.{lacks_lf, named, tail_of}
+use Rattle.dump_manifest.specs.Manifests.{HasItems, IsDigest, IsWord, event_name, item_name}
+use Rattle.dump_manifest.specs.Pieces.{Fronts, came, lacks_lf, named, tail_of}
 use Rattle.dump_manifest.specs.Reading.{IsReadAs}
 use Rattle.dump_manifest.proofs.Folders.{long_hex}
 use Rattle.dump_manifest.proofs.Pieces.{Lacks, decimal_lacks, lacks_both}
@@ -13,7 +13,7 @@ use Rattle.dump_manifest.proofs.Words.{same_front}
 not_lf : (b : ℕ) → (b ≡ 10 → ⊥) → (b == 10) ≡ false
 not_lf b other = search rules
 
-lacks_cons : (b : ℕ) (bytes : List ℕ) → (b ≡ 10 → ⊥) → lacks_lf bytes ≡ true → lacks_lf (b ∷ bytes) ≡ true
+pub lacks_cons : (b : ℕ) (bytes : List ℕ) → (b ≡ 10 → ⊥) → lacks_lf bytes ≡ true → lacks_lf (b ∷ bytes) ≡ true
 lacks_cons b bytes other rest = rw (not_lf b other) rest
 
 digit_other : (d : ℕ) → d < 16 → slice_index lower_digits d ≡ 10 → ⊥
@@ -57,3 +57,16 @@ tail_read text front back at None place first second long some none = λ value f
     let all = long_tail value.0 value.1 text fits.1 same in
     let cut = same_front front (decimal value.0) back (codes " " ++ encode_lower value.1) (omega (arith, place, long, all)) (sym parts ∙ same) in
     none refl value.0 value.1 fits cut.0 cut.1
+
+-- the line behind a word is that of the next file
+pub named_item : (b : Bool) (items events : ℕ) (text : List ℕ) (o : Option ((ℕ × List ℕ) × List ℕ)) → b ≡ true → events ≡ 0 → Fronts (named (codes "file i") items) text o
+    → Fronts (came b items events true) text o
+unfolding item_name
+named_item b items events text (Some front) boot first read = (((boot, first), read.0.0, read.0.1), read.1)
+named_item b items events text None boot first none = λ value rest fits same. none value rest (fits.1, fits.2) same
+
+pub named_event : (b : Bool) (items events : ℕ) (text : List ℕ) (o : Option ((ℕ × List ℕ) × List ℕ)) → HasItems b items → Fronts (named (codes "file e") events) text o
+    → Fronts (came b items events false) text o
+unfolding event_name
+named_event b items events text (Some front) has read = ((has, read.0.0, read.0.1), read.1)
+named_event b items events text None has none = λ value rest fits same. none value rest (fits.1, fits.2) same

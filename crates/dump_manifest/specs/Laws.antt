@@ -11,7 +11,7 @@ ManifestsDiffer = (source : List ℕ) (dump : ℕ) (m m' : Manifest) → IsDiges
 
 -- nothing stops a manifest
 abbrev pub ManifestsAreRead : Type 0
-ManifestsAreRead = (source : List ℕ) (dump : ℕ) (m : Manifest) (at : ℕ) → Fits source dump m → Stops source dump at (manifest_code m) → ⊥
+ManifestsAreRead = (source : List ℕ) (dump : ℕ) (m : Manifest) (at : ℕ) → IsDigest 16 source → Fits source dump m → Stops source dump at (manifest_code m) → ⊥
 
 -- two dumps have folders of different names
 abbrev pub DirsDiffer : Type 0

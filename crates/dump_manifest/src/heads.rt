@@ -49,7 +49,7 @@ pub fn read_origin<'a>(text: &'a [u8], source: &[u8; 16], dump: u64) -> Result<(
 /// a rule.
 pub fn read_span(text: &[u8]) -> Result<(Span, &[u8]), &[u8]>
     ensures { MatchResult result
-        (λ found. (found.0.begin ≤ found.0.end) × (found.0.end ≤ 9223372036854775807)
+        (λ found. IsWord found.0.born × (found.0.begin ≤ found.0.end) × (found.0.end ≤ 9223372036854775807)
             × (text.now ≡ lines_text (span_lines found.0.bootstrap found.0.begin found.0.end found.0.born) ++ found.1.now))
         (λ rest. (source : List ℕ) (dump : ℕ) → HasStopped source dump at_kind text.now rest.now) }
 {

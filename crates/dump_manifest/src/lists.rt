@@ -1,8 +1,9 @@
 //! The list of files, and the last line.
 
-ghost use Rattle.std.specs.Prelude.{◌≡◌, ◌++◌, ◌∷◌, [], ◌<◌, ◌^◌, ℕ, List, All, IfOk, MatchResult, map, string_bytes};
-ghost use Rattle.dump_manifest.specs.Manifests.{HasNames, IsFile, done_line, event_name, file_line, item_name, lines_text};
-ghost use Rattle.dump_manifest.specs.Pieces.{items_after, next_name};
+ghost use Rattle.std.specs.Prelude.{◌≡◌, ◌++◌, ◌∷◌, [], ◌<◌, ◌^◌, ℕ, List, All, IfOk, IfSome, IsNone, MatchResult, map, string_bytes};
+ghost use Rattle.std.specs.Option.{option_copied};
+ghost use Rattle.dump_manifest.specs.Manifests.{HasItems, HasNames, IsFile, done_line, event_name, file_line, item_name, lines_text, with_lf};
+ghost use Rattle.dump_manifest.specs.Pieces.{Follows, items_after, next_name};
 ghost use Rattle.dump_manifest.specs.Reading.{HasStopped, MayFollow, at_file, at_last};
 
 use crate::files::{Found, has_items, take_file};
@@ -30,13 +31,30 @@ pub fn read_files(alloc: Global, bootstrap: bool, text: &[u8]) -> Result<Result<
         items = items_after(items, found.0);
         rest = after;
     }
-    if !has_items(bootstrap, items) {
-        return Ok(Err(rest));
-    }
-    match strip_line(rest, b"done") {
+    match take_done(rest, bootstrap, items) {
         Some(after) => Ok(Ok((files, after))),
         None => Ok(Err(rest)),
     }
+}
+
+// What follows the last line, which may stand behind so many files of items.
+fn take_done(text: &[u8], bootstrap: bool, items: u64) -> Option<&[u8]>
+    ensures some { IfSome (option_copied result) (λ rest. HasItems bootstrap items
+        × (text.now ≡ with_lf done_line ++ rest)) }
+    ensures none { IsNone result → HasItems bootstrap items
+        → (rest : List ℕ) → text.now ≡ with_lf done_line ++ rest → ⊥ }
+{
+    if has_items(bootstrap, items) {
+        take_last(text)
+    } else {
+        None
+    }
+}
+
+fn take_last(text: &[u8]) -> Option<&[u8]>
+    ensures { Follows (with_lf done_line) text.now (option_copied result) }
+{
+    strip_line(text, b"done")
 }
 
 // How many files of items there are behind one more file.

@@ -1,6 +1,6 @@
 //! A manifest read from its text.
 
-ghost use Rattle.std.specs.Prelude.{◌≡◌, ◌≤◌, ◌-◌, length, IfOk, MatchResult};
+ghost use Rattle.std.specs.Prelude.{◌≡◌, ◌≢◌, [], true, false, ◌≤◌, ◌-◌, length, IfOk, MatchResult};
 ghost use Rattle.dump_manifest.specs.Manifests.{Fits, manifest_code};
 ghost use Rattle.dump_manifest.specs.declared.manifest.ManifestFault.TheVariants.{Grammar};
 ghost use Rattle.dump_manifest.specs.Reading.{IsFault};
@@ -32,7 +32,7 @@ pub fn read_manifest(alloc: Global, source: &[u8; 16], dump: u64, text: &[u8]) -
         Ok(found) => found,
         Err(rest) => return Err(fault_at(text, rest)),
     };
-    if !rest.is_empty() {
+    if has_more(rest) {
         return Err(fault_at(text, rest));
     }
     Ok(Manifest {
@@ -45,6 +45,14 @@ pub fn read_manifest(alloc: Global, source: &[u8; 16], dump: u64, text: &[u8]) -
         born: span.born,
         files,
     })
+}
+
+// Whether anything is left.
+fn has_more(rest: &[u8]) -> bool
+    ensures some { result ≡ true → rest.now ≢ [] }
+    ensures none { result ≡ false → rest.now ≡ [] }
+{
+    !rest.is_empty()
 }
 
 // The fault at a line from which this text is left.

@@ -2,8 +2,8 @@ use Rattle.std.proofs.Common.{length}
 use Rattle.dump_manifest.proofs.Rows.{SoFar}
 use Rattle.dump_manifest.proofs.lists.read_files.Given as goal
 
-abbrev pub invariant-loop : goal.invariant-loop
-invariant-loop l = SoFar l.bootstrap l.text.now l.files l.items l.rest.now
+abbrev pub invariant-loop-found : goal.invariant-loop-found
+invariant-loop-found l = SoFar l.bootstrap l.text l.files l.items l.rest
 
-abbrev pub decreases-loop : goal.decreases-loop
-decreases-loop l = length l.rest.now
+abbrev pub decreases-loop-found : goal.decreases-loop-found
+decreases-loop-found l = length l.rest
