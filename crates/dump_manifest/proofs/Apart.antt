@@ -1,15 +1,12 @@
 -- Lines say what they say in one way.
-use Rattle.std.proofs.Common.{◌≡◌, refl, sym, ap, subst, ◌∙◌, rules, arith, ℕ, zero, suc, ◌+◌, ◌/◌, ◌%◌, ◌^◌, ◌<◌, ◌≤◌, ◌==◌, length, map, drop, slice_index, List, [], ◌∷◌, ◌++◌, Bool, true, false, Option, None, Some, inl, inr, codes, decimal, if◌then◌else◌, nat_lt}
+use Rattle.std.proofs.Common.{◌≡◌, refl, sym, ap, subst, ◌∙◌, arith, ℕ, zero, suc, ◌+◌, ◌/◌, ◌%◌, ◌^◌, ◌<◌, ◌≤◌, ◌==◌, length, slice_index, List, [], ◌∷◌, ◌++◌, Bool, true, false, inl, inr, codes, decimal, if◌then◌else◌, nat_lt}
 use Rattle.std.specs.Fmt.{digit_glyph, digits, digits_onto}
-use Rattle.std.specs.List.{All}
 use Rattle.std.proofs.lemmas.Fmt.{decimal_injective}
-use Rattle.std.proofs.lemmas.List.{append_assoc, append-nil}
-use Rattle.std.proofs.lemmas.List.Elements.{All-cons, All-head, All-nil, All-tail}
-use Rattle.hex.specs.Hex.{IsBytes, encode_lower}
+use Rattle.hex.specs.Hex.{encode_lower}
 use Rattle.dump_manifest.specs.declared.manifest.FileLine.{FileLine}
-use Rattle.dump_manifest.specs.Manifests.{HasItems, IsDigest, IsFile, IsLowerName, IsWord, begin_line, born_line, db_line, done_line, dump_line, end_line, event_name, file_line, item_name, kind_line, lines_text, names_below, source_line, version_line, with_lf}
+use Rattle.dump_manifest.specs.Manifests.{IsDigest, IsFile, begin_line, born_line, db_line, done_line, dump_line, end_line, event_name, file_line, item_name, kind_line, source_line, version_line}
 use Rattle.dump_manifest.specs.Pieces.{lacks_lf, line_of}
-use Rattle.dump_manifest.specs.Reading.{IsNextFile, MayFollow, MayStand, Place, at_begin, at_born, at_db, at_dump, at_end, at_file, at_kind, at_last, at_source, at_version}
+use Rattle.dump_manifest.specs.Reading.{IsNextFile, MayStand, Place, at_begin, at_born, at_db, at_dump, at_end, at_file, at_kind, at_last, at_source, at_version}
 use Rattle.dump_manifest.proofs.Folders.{one_hex}
 use Rattle.dump_manifest.proofs.Names.{lower_lacks}
 use Rattle.dump_manifest.proofs.Pieces.{lacks_both}
@@ -84,10 +81,10 @@ name_high b items events name next (inr (has, is, place)) = subst High (sym is) 
 line_lacks : (name : List ℕ) (n : ℕ) (digest : List ℕ) → High name → IsDigest 32 digest → lacks_lf (line_of name n digest) ≡ true
 line_lacks name n digest high fits =
     lacks_both (codes "file ") (name ++ (codes " " ++ (decimal n ++ (codes " " ++ encode_lower digest)))) refl
-      (lacks_both name (codes " " ++ (decimal n ++ (codes " " ++ encode_lower digest))) (high_lacks name high)
-        (lacks_both (codes " ") (decimal n ++ (codes " " ++ encode_lower digest)) refl
-          (lacks_both (decimal n) (codes " " ++ encode_lower digest) (high_lacks (decimal n) (decimal_high n))
-            (lacks_both (codes " ") (encode_lower digest) refl (hex_lacks digest fits.0)))))
+    (lacks_both name (codes " " ++ (decimal n ++ (codes " " ++ encode_lower digest))) (high_lacks name high)
+    (lacks_both (codes " ") (decimal n ++ (codes " " ++ encode_lower digest)) refl
+    (lacks_both (decimal n) (codes " " ++ encode_lower digest) (high_lacks (decimal n) (decimal_high n))
+    (lacks_both (codes " ") (encode_lower digest) refl (hex_lacks digest fits.0)))))
 
 word_lacks : (word : List ℕ) (n : ℕ) (line : List ℕ) → lacks_lf word ≡ true → line ≡ word ++ decimal n → lacks_lf line ≡ true
 word_lacks word n line plain is = subst (λ l. lacks_lf l ≡ true) (sym is) (lacks_both word (decimal n) plain (high_lacks (decimal n) (decimal_high n)))
@@ -154,7 +151,7 @@ file_path f g p q r = λ i. record { name = p i; length = q i; digest = r i }
 pub file_same : (f g : FileLine) → High f.name → High g.name → IsFile f → IsFile g → file_line f ≡ file_line g → f ≡ g
 file_same f g hf hg ff fg same =
     let lines = behind_same (codes "file ") (f.name ++ (codes " " ++ (decimal f.length ++ (codes " " ++ encode_lower f.digest))))
-      (g.name ++ (codes " " ++ (decimal g.length ++ (codes " " ++ encode_lower g.digest)))) (sym (line_is f) ∙ (same ∙ line_is g)) in
+    (g.name ++ (codes " " ++ (decimal g.length ++ (codes " " ++ encode_lower g.digest)))) (sym (line_is f) ∙ (same ∙ line_is g)) in
     let names = one_cut 32 f.name g.name (decimal f.length ++ (codes " " ++ encode_lower f.digest)) (decimal g.length ++ (codes " " ++ encode_lower g.digest)) (omega arith) hf hg lines in
     let lengths = one_cut 32 (decimal f.length) (decimal g.length) (encode_lower f.digest) (encode_lower g.digest) (omega arith) (decimal_high f.length) (decimal_high g.length) names.1 in
     file_path f g names.0 (decimal_injective f.length g.length ff.0 fg.0 lengths.0) (one_hex 32 f.digest g.digest ff.1 fg.1 lengths.1)

@@ -1,5 +1,5 @@
 -- Texts cut at their first LF.
-use Rattle.std.proofs.Common.{◌≡◌, refl, sym, ap, ◌∙◌, rules, arith, ℕ, zero, suc, ◌+◌, ◌<◌, ◌≤◌, ◌==◌, length, take, drop, slice_index, List, [], ◌∷◌, ◌++◌, Bool, true, false, cond, Option, None, Some}
+use Rattle.std.proofs.Common.{◌≡◌, refl, sym, ap, ◌∙◌, rules, arith, ℕ, zero, suc, ◌<◌, ◌≤◌, ◌==◌, length, take, drop, slice_index, List, [], ◌∷◌, ◌++◌, Bool, true, false, cond, Option, None, Some}
 use Rattle.std.proofs.lemmas.List.{take_all}
 use Rattle.dump_manifest.specs.Pieces.{cut_by, cut_line, lacks_lf}
 
@@ -53,7 +53,6 @@ pub put_together : (text line rest : List ℕ) → cut_line text ≡ Some (line,
 put_together [] line rest cut = search rules
 put_together (b ∷ bytes) line rest cut = together (b == 10) b bytes (cut_line bytes) line rest refl cut (λ l r h. put_together bytes l r h)
 
-
 not_lf : (b : ℕ) → (b ≡ 10 → ⊥) → (b == 10) ≡ false
 not_lf b other = search rules
 
@@ -70,7 +69,7 @@ lacks_more (b ∷ bytes) (suc at) some none here = more (b == 10) _ _ none (λ h
     more true x y h go = h
     more false x y h go = go h
 
--- the same, where the place behind is told by an equation
+-- the same, where the place after is told by an equation
 pub cut_here : (text rest : List ℕ) (at next : ℕ) → next ≡ suc at → rest ≡ drop next text → at < length text → lacks_lf (take at text) ≡ true → slice_index text at ≡ 10 → cut_line text ≡ Some (take at text, rest)
 cut_here text rest at next is behind some none here = rw (behind, is) (cut_there text at some none here)
 

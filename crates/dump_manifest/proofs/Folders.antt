@@ -1,6 +1,5 @@
 -- The name of a folder tells its store and its dump.
-use Rattle.std.proofs.Common.{◌≡◌, refl, sym, ap, ◌∙◌, arith, ℕ, ◌+◌, ◌*◌, ◌<◌, ◌^◌, length, take, drop, List, ◌++◌, Option, None, Some, Result, codes, decimal, IfSome, IsNone}
-use Rattle.std.specs.Result.{result_unwrap_or}
+use Rattle.std.proofs.Common.{◌≡◌, refl, sym, ap, ◌∙◌, arith, ℕ, ◌+◌, ◌*◌, ◌<◌, length, take, drop, List, ◌++◌, Option, None, Some, codes, decimal, IfSome, IsNone}
 use Rattle.std.proofs.lemmas.Fmt.{decimal_injective}
 use Rattle.std.proofs.lemmas.List.{length-append, take-append-drop}
 use Rattle.hex.specs.Hex.{decode_of, encode_lower, lower_digits}
@@ -21,7 +20,7 @@ pub short_dir : (dir bytes : List ℕ) (value : List ℕ × ℕ) → bytes ≡ d
 short_dir dir bytes value is fits same short =
     let digits = long_hex 16 value.0 fits.0 in
     let long : length bytes ≡ length (encode_lower value.0) + length (codes "-" ++ decimal value.1) =
-      ap (λ t. length t) (is ∙ same) ∙ length-append (encode_lower value.0) (codes "-" ++ decimal value.1) in
+    ap (λ t. length t) (is ∙ same) ∙ length-append (encode_lower value.0) (codes "-" ++ decimal value.1) in
     omega (arith, short, digits, long)
 
 pub dir_read : (dir bytes front back : List ℕ) (o : Option (List ℕ × ℕ)) → bytes ≡ dir → front ≡ take 32 bytes → back ≡ drop 32 bytes → length front ≡ 32
@@ -39,5 +38,5 @@ dir_read dir bytes front back None is first second long some none = λ value fit
 pub dirs_differ : DirsDiffer
 dirs_differ = λ source source' dump dump' fs fs' fd fd' same.
     let cut = same_front (encode_lower source) (encode_lower source') (codes "-" ++ decimal dump) (codes "-" ++ decimal dump')
-      (long_hex 16 source fs ∙ sym (long_hex 16 source' fs')) same in
+    (long_hex 16 source fs ∙ sym (long_hex 16 source' fs')) same in
     (one_hex 16 source source' fs fs' cut.0, decimal_injective dump dump' fd fd' (behind_same (codes "-") (decimal dump) (decimal dump') cut.1))

@@ -1,15 +1,13 @@
 -- Names and hexadecimal digits hold no LF.
-use Rattle.std.proofs.Common.{◌≡◌, refl, sym, ap, ◌∙◌, rules, arith, ℕ, ◌<◌, ◌≤◌, ◌==◌, ◌+◌, ◌/◌, ◌%◌, length, List, [], ◌∷◌, ◌++◌, Bool, true, false, cond, Option, None, Some, inl, inr, codes, slice_index}
+use Rattle.std.proofs.Common.{◌≡◌, refl, rules, arith, ℕ, ◌<◌, ◌==◌, List, [], ◌∷◌, true, false, inl, inr}
 use Rattle.std.specs.List.{All}
-use Rattle.std.specs.Str.{IsAscii, IsUtf8}
+use Rattle.std.specs.Str.{IsUtf8}
 use Rattle.std.proofs.lemmas.List.Elements.{All-head, All-tail, All-weaker}
 use Rattle.std.proofs.lemmas.Str.{IsUtf8-from_ascii}
 use Rattle.std.proofs.lemmas.Str.Ascii.{IsAscii-from_all}
 use Rattle.dump_manifest.specs.Manifests.{IsLowerByte, IsLowerName, db_line}
 use Rattle.dump_manifest.specs.Pieces.{db_of, lacks_lf}
-use Rattle.dump_manifest.specs.Reading.{IsReadAs}
 use Rattle.dump_manifest.proofs.Pieces.{Lacks}
-use Rattle.dump_manifest.proofs.Words.{behind_same}
 
 lower_ascii : (b : ℕ) → IsLowerByte b → b < 128
 lower_ascii b (inl letter) = omega (arith, letter.1)

@@ -1,8 +1,8 @@
 -- Words, values and lines at the front of a text.
-use Rattle.std.proofs.Common.{◌≡◌, refl, sym, ap, subst, ◌∙◌, rules, arith, ℕ, ◌+◌, ◌*◌, ◌/◌, ◌%◌, ◌^◌, ◌<◌, ◌≤◌, ◌==◌, length, List, [], ◌∷◌, ◌++◌, Bool, true, false, cond, Option, None, Some, Result, codes, decimal, drop, take, inl, inr, ◌⊎◌, ◌-◌}
-use Rattle.std.proofs.lemmas.Fmt.{decimal_by_steps, decimal_injective}
-use Rattle.std.proofs.lemmas.List.{append_assoc, length-append, take-append-drop}
-use Rattle.dump_manifest.specs.Manifests.{IsDigest, IsWord, with_lf}
+use Rattle.std.proofs.Common.{◌≡◌, refl, sym, ap, subst, ◌∙◌, rules, ℕ, ◌+◌, ◌%◌, ◌^◌, ◌<◌, ◌==◌, List, [], ◌∷◌, ◌++◌, Bool, true, false, cond, Option, None, Some, decimal}
+use Rattle.std.proofs.lemmas.Fmt.{decimal_by_steps}
+use Rattle.std.proofs.lemmas.List.{append_assoc}
+use Rattle.dump_manifest.specs.Manifests.{with_lf}
 use Rattle.dump_manifest.specs.Pieces.{Follows, Fronts, cut_line, lacks_lf, prefixed}
 use Rattle.dump_manifest.specs.Reading.{IsReadAs, Kind, number_line}
 use Rattle.dump_manifest.proofs.Cutting.{cut_again, put_together}

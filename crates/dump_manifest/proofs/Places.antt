@@ -1,10 +1,10 @@
--- Lines that may stand behind one another, and places where nothing goes on.
-use Rattle.std.proofs.Common.{◌≡◌, refl, sym, ap, subst, ◌∙◌, rules, arith, ℕ, ◌+◌, ◌^◌, ◌<◌, ◌≤◌, length, List, [], ◌∷◌, ◌++◌, Bool, true, false, Option, None, Some, codes, decimal, inl, inr}
+-- Lines that may stand after one another, and places where nothing goes on.
+use Rattle.std.proofs.Common.{◌≡◌, refl, sym, ap, subst, ◌∙◌, arith, ℕ, ◌^◌, ◌<◌, ◌≤◌, List, [], ◌∷◌, ◌++◌, Bool, true, false, None, codes, decimal}
 use Rattle.std.proofs.lemmas.Fmt.{decimal_injective}
-use Rattle.std.proofs.lemmas.List.{append_assoc, length-append}
-use Rattle.dump_manifest.specs.Manifests.{IsWord, begin_line, born_line, db_line, dump_line, end_line, kind_line, lines_text, source_line, version_line, with_lf}
-use Rattle.dump_manifest.specs.Pieces.{Follows, Fronts, begin_of, born_of, cut_line, db_of, end_of, kind_of, lacks_lf}
-use Rattle.dump_manifest.specs.Reading.{HasStopped, IsStuck, Kind, MayFollow, MayStand, Place, at_begin, at_born, at_db, at_dump, at_end, at_file, at_kind, at_last, at_source, at_version, number_line}
+use Rattle.std.proofs.lemmas.List.{append_assoc}
+use Rattle.dump_manifest.specs.Manifests.{dump_line, end_line, kind_line, lines_text, source_line, version_line, with_lf}
+use Rattle.dump_manifest.specs.Pieces.{Follows, Fronts, begin_of, born_of, db_of, end_of, kind_of, lacks_lf}
+use Rattle.dump_manifest.specs.Reading.{HasStopped, IsStuck, Kind, MayFollow, MayStand, Place, at_begin, at_born, at_db, at_dump, at_end, at_kind, at_last, at_source, at_version, number_line}
 use Rattle.dump_manifest.proofs.Pieces.{decimal_lacks, lacks_both, one_line}
 use Rattle.dump_manifest.proofs.Words.{behind_same, text_more}
 
@@ -18,7 +18,7 @@ pub stopped_later : (source : List ℕ) (dump : ℕ) (from mid : Place) (line te
 stopped_later source dump from mid line text behind rest stands same (lines, place, split, follow, stuck) =
     (line ∷ lines, place, same ∙ (ap (λ t. with_lf line ++ t) split ∙ sym (append_assoc (with_lf line) (lines_text lines) rest)), (mid, stands, follow), stuck)
 
--- lines behind one another
+-- lines after one another
 pub follow_both : (source : List ℕ) (dump : ℕ) (from mid to : Place) (before after : List (List ℕ)) → MayFollow source dump from before mid → MayFollow source dump mid after to
     → MayFollow source dump from (before ++ after) to
 follow_both source dump from mid to [] after one other = subst (λ p. MayFollow source dump p after to) (sym one) other
@@ -30,12 +30,15 @@ text_both (l ∷ before) after = ap (λ t. with_lf l ++ t) (text_both before aft
 
 pub stopped_behind : (source : List ℕ) (dump : ℕ) (from mid : Place) (before : List (List ℕ)) (text behind rest : List ℕ) → MayFollow source dump from before mid
     → text ≡ lines_text before ++ behind → HasStopped source dump mid behind rest → HasStopped source dump from text rest
-stopped_behind source dump from mid before text behind rest follow same (lines, place, split, more, stuck) =
-    (before ++ lines, place,
-      same ∙ (ap (λ t. lines_text before ++ t) split ∙ (sym (append_assoc (lines_text before) (lines_text lines) rest) ∙ ap (λ t. t ++ rest) (sym (text_both before lines)))),
-      follow_both source dump from mid place before lines follow more, stuck)
+stopped_behind source dump from mid before text behind rest follow same (lines, place, split, more, stuck) = (
+  before ++ lines,
+  place,
+  same ∙ (ap (λ t. lines_text before ++ t) split ∙ (sym (append_assoc (lines_text before) (lines_text lines) rest) ∙ ap (λ t. t ++ rest) (sym (text_both before lines)))),
+  follow_both source dump from mid place before lines follow more,
+  stuck,
+)
 
--- one line behind another
+-- one line after another
 pub line_text : (line text behind rest : List ℕ) (lines : List (List ℕ)) → text ≡ with_lf line ++ behind → behind ≡ lines_text lines ++ rest → text ≡ lines_text (line ∷ lines) ++ rest
 line_text line text behind rest lines first second = first ∙ (ap (λ t. with_lf line ++ t) second ∙ sym (append_assoc (with_lf line) (lines_text lines) rest))
 
@@ -99,7 +102,7 @@ kind_none text one other = λ b rest fits same. by b rest same
 pub one_number : (word text x y : List ℕ) (m n : ℕ) → lacks_lf word ≡ true → m < 2 ^ 64 → n < 2 ^ 64 → text ≡ with_lf (word ++ decimal m) ++ x → text ≡ with_lf (word ++ decimal n) ++ y → m ≡ n
 one_number word text x y m n plain sm sn first second =
     decimal_injective m n sm sn (behind_same word (decimal m) (decimal n)
-      (one_line text (word ++ decimal m) x (word ++ decimal n) y (lacks_both word (decimal m) plain (decimal_lacks m sm)) (lacks_both word (decimal n) plain (decimal_lacks n sn)) first second).0)
+    (one_line text (word ++ decimal m) x (word ++ decimal n) y (lacks_both word (decimal m) plain (decimal_lacks m sm)) (lacks_both word (decimal n) plain (decimal_lacks n sn)) first second).0)
 
 pub end_none : (begin : ℕ) (text : List ℕ) → Fronts (number_line (codes "end ")) text None → Fronts (end_of begin) text None
 unfolding end_line

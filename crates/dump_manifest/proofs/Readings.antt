@@ -1,14 +1,13 @@
 -- A manifest is read in one way, and nothing stops it.
-use Rattle.std.proofs.Common.{◌≡◌, refl, sym, ap, subst, ◌∙◌, rules, arith, ℕ, zero, suc, ◌+◌, ◌^◌, ◌<◌, ◌≤◌, length, map, drop, List, [], ◌∷◌, ◌++◌, Bool, true, false, slice_index_or, inl, inr}
+use Rattle.std.proofs.Common.{◌≡◌, refl, sym, ap, subst, ◌∙◌, arith, ℕ, zero, suc, ◌≤◌, length, map, drop, List, [], ◌∷◌, ◌++◌, Bool, true, false, slice_index_or, inr}
 use Rattle.std.specs.List.{All}
 use Rattle.std.proofs.lemmas.List.{append_assoc, append-nil}
 use Rattle.std.proofs.lemmas.List.Elements.{All-cons, All-head, All-nil, All-tail}
 use Rattle.dump_manifest.specs.declared.manifest.FileLine.{FileLine}
 use Rattle.dump_manifest.specs.declared.manifest.Manifest.{Manifest}
 use Rattle.dump_manifest.specs.Laws.{ManifestsAreRead, ManifestsDiffer}
-use Rattle.dump_manifest.specs.Manifests.{Fits, HasItems, HasNames, IsDigest, IsFile, begin_line, born_line, db_line, done_line, dump_line, end_line, event_name, file_line, item_name, kind_line, lines_text, manifest_code, manifest_lines, names_below, origin_lines, source_line, span_lines, version_line, with_lf}
-use Rattle.dump_manifest.specs.Pieces.{MayCome}
-use Rattle.dump_manifest.specs.Reading.{IsStuck, MayFollow, MayStand, Place, Stops, at_begin, at_born, at_db, at_dump, at_end, at_file, at_kind, at_last, at_source, at_version}
+use Rattle.dump_manifest.specs.Manifests.{Fits, HasItems, HasNames, IsDigest, IsFile, done_line, dump_line, event_name, file_line, item_name, lines_text, manifest_lines, names_below, origin_lines, source_line, span_lines, with_lf}
+use Rattle.dump_manifest.specs.Reading.{IsStuck, MayFollow, MayStand, Place, at_begin, at_born, at_db, at_dump, at_end, at_file, at_kind, at_last, at_source, at_version}
 use Rattle.dump_manifest.proofs.Apart.{High, begin_same, born_same, db_same, end_same, event_high, file_done, file_same, item_high, kind_same, next_same, stands_lacks}
 use Rattle.dump_manifest.proofs.Pieces.{one_line}
 use Rattle.dump_manifest.proofs.Places.{follow_both}
@@ -44,12 +43,12 @@ all_front (g ∷ fs) f all =
     let r = all_front fs f (All-tail IsFile g (fs ++ f ∷ []) all) in
     (All-cons IsFile g fs (All-head IsFile g (fs ++ f ∷ []) all) r.0, r.1)
 
--- one file behind others
+-- one file after others
 files_more : (source : List ℕ) (dump : ℕ) (b : Bool) (files fs : List FileLine) (f : FileLine) (place next : Place) → files ≡ fs ++ f ∷ []
     → MayFollow source dump (at_file b 0 0) (map file_line fs) place → MayStand source dump place (file_line f) next → MayFollow source dump (at_file b 0 0) (map file_line files) next
 files_more source dump b files fs f place next is before stands =
     subst (λ ls. MayFollow source dump (at_file b 0 0) ls next) (sym (ap (λ gs. map file_line gs) is ∙ map_more file_line fs f))
-      (follow_both source dump (at_file b 0 0) place next (map file_line fs) (file_line f ∷ []) before (next, stands, refl))
+    (follow_both source dump (at_file b 0 0) place next (map file_line fs) (file_line f ∷ []) before (next, stands, refl))
 
 items_follow : (source : List ℕ) (dump : ℕ) (b : Bool) (items : ℕ) (files : List FileLine) → (1 ≤ items → b ≡ true) → All IsFile files
     → map (λ f. f.name) files ≡ names_below item_name items → MayFollow source dump (at_file b 0 0) (map file_line files) (at_file b items 0)
@@ -60,19 +59,19 @@ items_follow source dump b (suc items) files boot fit named =
     let fits = all_front fs f (subst (λ gs. All IsFile gs) is fit) in
     let true_b = boot (omega arith) in
     files_more source dump b files fs f (at_file b items 0) (at_file b (suc items) 0) is
-      (items_follow source dump b items fs (λ some. true_b) fits.0 called)
-      (came_stands source dump b items 0 true f (true_b, refl) fits.1 last)
+    (items_follow source dump b items fs (λ some. true_b) fits.0 called)
+    (came_stands source dump b items 0 true f (true_b, refl) fits.1 last)
 
 files_follow : (source : List ℕ) (dump : ℕ) (b : Bool) (items events : ℕ) (files : List FileLine) → HasItems b items → (1 ≤ items → b ≡ true) → All IsFile files
     → map (λ f. f.name) files ≡ names_below item_name items ++ names_below event_name events → MayFollow source dump (at_file b 0 0) (map file_line files) (at_file b items events)
 files_follow source dump b items zero files has boot fit named = items_follow source dump b items files boot fit (named ∙ append-nil (names_below item_name items))
 files_follow source dump b items (suc events) files has boot fit named =
     let (fs, f, is, called, last) = split_last files (names_below item_name items ++ names_below event_name events) (event_name events)
-      (named ∙ sym (append_assoc (names_below item_name items) (names_below event_name events) (event_name events ∷ []))) in
+    (named ∙ sym (append_assoc (names_below item_name items) (names_below event_name events) (event_name events ∷ []))) in
     let fits = all_front fs f (subst (λ gs. All IsFile gs) is fit) in
     files_more source dump b files fs f (at_file b items events) (at_file b items (suc events)) is
-      (files_follow source dump b items events fs has boot fits.0 called)
-      (came_stands source dump b items events false f has fits.1 last)
+    (files_follow source dump b items events fs has boot fits.0 called)
+    (came_stands source dump b items events false f has fits.1 last)
 
 boots : (b : Bool) (items : ℕ) → HasItems b items → 1 ≤ items → b ≡ true
 boots true items has some = refl
@@ -84,13 +83,19 @@ manifest_follows source dump m fits =
     let low = fits.range.0 in
     let high = fits.range.1 in
     follow_both source dump at_version at_kind at_last (origin_lines m.source m.db m.dump) (span_lines m.bootstrap m.begin m.end m.born ++ (map file_line m.files ++ done_line ∷ []))
-      (at_source, (refl, refl), (at_db, (ap source_line fits.its_source, refl), (at_dump, (m.db, fits.db, refl, refl), (at_kind, (ap dump_line fits.its_dump, refl), refl))))
-      (follow_both source dump at_kind (at_file m.bootstrap 0 0) at_last (span_lines m.bootstrap m.begin m.end m.born) (map file_line m.files ++ done_line ∷ [])
-        (at_begin m.bootstrap, (m.bootstrap, refl, refl), (at_end m.bootstrap m.begin, (m.begin, omega (arith, low, high), refl, refl),
-          (at_born m.bootstrap, (m.end, fits.range, refl, refl), (at_file m.bootstrap 0 0, (m.born, fits.born, refl, refl), refl))))
-        (follow_both source dump (at_file m.bootstrap 0 0) (at_file m.bootstrap items events) at_last (map file_line m.files) (done_line ∷ [])
-          (files_follow source dump m.bootstrap items events m.files has (boots m.bootstrap items has) fits.files named)
-          (at_last, inr (has, refl, refl), refl)))
+    (at_source, (refl, refl), (at_db, (ap source_line fits.its_source, refl), (at_dump, (m.db, fits.db, refl, refl), (at_kind, (ap dump_line fits.its_dump, refl), refl))))
+    (follow_both source dump at_kind (at_file m.bootstrap 0 0) at_last (span_lines m.bootstrap m.begin m.end m.born) (map file_line m.files ++ done_line ∷ []) (
+      at_begin m.bootstrap,
+      (m.bootstrap, refl, refl),
+      (
+        at_end m.bootstrap m.begin,
+        (m.begin, omega (arith, low, high), refl, refl),
+        (at_born m.bootstrap, (m.end, fits.range, refl, refl), (at_file m.bootstrap 0 0, (m.born, fits.born, refl, refl), refl)),
+      ),
+    )
+    (follow_both source dump (at_file m.bootstrap 0 0) (at_file m.bootstrap items events) at_last (map file_line m.files) (done_line ∷ [])
+    (files_follow source dump m.bootstrap items events m.files has (boots m.bootstrap items has) fits.files named)
+    (at_last, inr (has, refl, refl), refl)))
 
 -- ---- nothing stops them
 
@@ -102,7 +107,7 @@ no_stop source dump [] (l ∷ all) from place rest digest one (next, stands, mor
 no_stop source dump (k ∷ lines) [] from place rest digest (next, stands, more) other same stuck = subst (λ p. MayStand source dump p k next) other stands
 no_stop source dump (k ∷ lines) (l ∷ all) from place rest digest (next, stands, more) (next', stands', more') same stuck =
     let cut = one_line (lines_text (l ∷ all)) l (lines_text all) k (lines_text lines ++ rest)
-      (stands_lacks source dump from l next' digest stands') (stands_lacks source dump from k next digest stands) refl (same ∙ append_assoc (with_lf k) (lines_text lines) rest) in
+    (stands_lacks source dump from l next' digest stands') (stands_lacks source dump from k next digest stands) refl (same ∙ append_assoc (with_lf k) (lines_text lines) rest) in
     let led = next_same source dump from k next' next (subst (λ x. MayStand source dump from x next') cut.0 stands') stands in
     no_stop source dump lines all next place rest digest more (subst (λ p. MayFollow source dump p all at_last) led more') cut.1 stuck
 
@@ -120,7 +125,7 @@ lines_one source dump [] (y ∷ ys) from digest one (next, stands, more) same = 
 lines_one source dump (x ∷ xs) [] from digest (next, stands, more) other same = absurd (subst (λ p. MayStand source dump p x next) other stands)
 lines_one source dump (x ∷ xs) (y ∷ ys) from digest (next, stands, more) (next', stands', more') same =
     let cut = one_line (lines_text (x ∷ xs)) x (lines_text xs) y (lines_text ys)
-      (stands_lacks source dump from x next digest stands) (stands_lacks source dump from y next' digest stands') refl same in
+    (stands_lacks source dump from x next digest stands) (stands_lacks source dump from y next' digest stands') refl same in
     let led = next_same source dump from y next' next stands' (subst (λ l. MayStand source dump from l next) cut.0 stands) in
     ap (λ z. z ∷ xs) cut.0 ∙ ap (λ zs. y ∷ zs) (lines_one source dump xs ys next digest more (subst (λ p. MayFollow source dump p ys at_last) led more') cut.1)
 
@@ -164,8 +169,8 @@ manifests_one = λ source dump m n digest fm fn same.
     let ln = fn.range.0 in
     let hn = fn.range.1 in
     manifest_path m n (fm.its_source ∙ sym fn.its_source) (db_same m.db n.db (ap (nth 2) lines)) (fm.its_dump ∙ sym fn.its_dump)
-      (kind_same m.bootstrap n.bootstrap (ap (nth 4) lines))
-      (begin_same m.begin n.begin (omega (arith, lm, hm)) (omega (arith, ln, hn)) (ap (nth 5) lines))
-      (end_same m.end n.end (omega (arith, hm)) (omega (arith, hn)) (ap (nth 6) lines))
-      (born_same m.born n.born fm.born fn.born (ap (nth 7) lines))
-      (files_one m.files n.files (names_high m.bootstrap m.files fm.names) (names_high n.bootstrap n.files fn.names) fm.files fn.files (ap (λ ls. drop 8 ls) lines))
+    (kind_same m.bootstrap n.bootstrap (ap (nth 4) lines))
+    (begin_same m.begin n.begin (omega (arith, lm, hm)) (omega (arith, ln, hn)) (ap (nth 5) lines))
+    (end_same m.end n.end (omega (arith, hm)) (omega (arith, hn)) (ap (nth 6) lines))
+    (born_same m.born n.born fm.born fn.born (ap (nth 7) lines))
+    (files_one m.files n.files (names_high m.bootstrap m.files fm.names) (names_high n.bootstrap n.files fn.names) fm.files fn.files (ap (λ ls. drop 8 ls) lines))

@@ -1,5 +1,5 @@
 -- The end of a file's line: its length and its digest.
-use Rattle.std.proofs.Common.{◌≡◌, refl, sym, ap, ◌∙◌, rules, arith, ℕ, suc, ◌+◌, ◌*◌, ◌/◌, ◌%◌, ◌<◌, ◌^◌, ◌==◌, Bool, length, take, drop, slice_index, List, [], ◌∷◌, ◌++◌, true, false, Option, None, Some, codes, decimal, IfSome, IsNone}
+use Rattle.std.proofs.Common.{◌≡◌, refl, sym, ap, ◌∙◌, rules, arith, ℕ, suc, ◌+◌, ◌/◌, ◌%◌, ◌<◌, ◌^◌, ◌==◌, Bool, length, take, drop, slice_index, List, [], ◌∷◌, ◌++◌, true, false, Option, None, Some, codes, decimal, IfSome, IsNone}
 use Rattle.std.proofs.lemmas.List.{length-append, take-append-drop}
 use Rattle.hex.specs.Hex.{IsBytes, encode_lower, encode_with, hex_digit_value, lower_digits}
 use Rattle.hex.proofs.HexLemmas.{IsDigits-lower_digits}
@@ -25,7 +25,7 @@ hex_lacks [] all = refl
 hex_lacks (b ∷ bytes) all =
     let fits : b < 256 = all 0 in
     lacks_cons (slice_index lower_digits (b / 16)) (slice_index lower_digits (b % 16) ∷ encode_lower bytes) (digit_other (b / 16) (omega (arith, fits)))
-      (lacks_cons (slice_index lower_digits (b % 16)) (encode_lower bytes) (digit_other (b % 16) (omega arith)) (hex_lacks bytes (λ k. all (suc k))))
+    (lacks_cons (slice_index lower_digits (b % 16)) (encode_lower bytes) (digit_other (b % 16) (omega arith)) (hex_lacks bytes (λ k. all (suc k))))
 
 pub tail_lacks : Lacks tail_of
 tail_lacks = λ value fits. lacks_both (decimal value.0) (codes " " ++ encode_lower value.1) (decimal_lacks value.0 fits.0)
@@ -34,7 +34,7 @@ tail_lacks = λ value fits. lacks_both (decimal value.0) (codes " " ++ encode_lo
 pub named_lacks : (word : List ℕ) (n : ℕ) → lacks_lf word ≡ true → n < 2 ^ 64 → Lacks (named word n)
 named_lacks word n plain small = λ value fits. lacks_both word (decimal n ++ (codes " " ++ (decimal value.0 ++ (codes " " ++ encode_lower value.1)))) plain
     (lacks_both (decimal n) (codes " " ++ (decimal value.0 ++ (codes " " ++ encode_lower value.1))) (decimal_lacks n small)
-      (lacks_both (codes " ") (decimal value.0 ++ (codes " " ++ encode_lower value.1)) refl (tail_lacks value fits)))
+    (lacks_both (codes " ") (decimal value.0 ++ (codes " " ++ encode_lower value.1)) refl (tail_lacks value fits)))
 
 long_tail : (n : ℕ) (bytes text : List ℕ) → IsDigest 32 bytes → text ≡ decimal n ++ (codes " " ++ encode_lower bytes) → length text ≡ length (decimal n) + 65
 long_tail n bytes text fits same =
@@ -58,7 +58,7 @@ tail_read text front back at None place first second long some none = λ value f
     let cut = same_front front (decimal value.0) back (codes " " ++ encode_lower value.1) (omega (arith, place, long, all)) (sym parts ∙ same) in
     none refl value.0 value.1 fits cut.0 cut.1
 
--- the line behind a word is that of the next file
+-- the line after a word is that of the next file
 pub named_item : (b : Bool) (items events : ℕ) (text : List ℕ) (o : Option ((ℕ × List ℕ) × List ℕ)) → b ≡ true → events ≡ 0 → Fronts (named (codes "file i") items) text o
     → Fronts (came b items events true) text o
 unfolding item_name

@@ -1,14 +1,14 @@
 -- A manifest put together of what was read, and where its text stops.
-use Rattle.std.proofs.Common.{◌≡◌, refl, sym, ap, subst, ◌∙◌, rules, arith, ℕ, ◌+◌, ◌-◌, ◌^◌, ◌<◌, ◌≤◌, length, map, List, [], ◌∷◌, ◌++◌, Bool, true, false}
+use Rattle.std.proofs.Common.{◌≡◌, refl, sym, ap, subst, ◌∙◌, arith, ℕ, ◌+◌, ◌-◌, ◌≤◌, length, map, List, [], ◌∷◌, ◌++◌, Bool}
 use Rattle.std.specs.List.{All}
-use Rattle.std.proofs.lemmas.List.{append_assoc, append-nil, length-append}
+use Rattle.std.proofs.lemmas.List.{append-nil, length-append}
 use Rattle.dump_manifest.specs.declared.manifest.FileLine.{FileLine}
 use Rattle.dump_manifest.specs.declared.manifest.Manifest.{Manifest}
 use Rattle.dump_manifest.specs.declared.manifest.ManifestFault.{ManifestFault}
 use Rattle.dump_manifest.specs.declared.manifest.ManifestFault.TheVariants.{Grammar}
-use Rattle.dump_manifest.specs.Manifests.{Fits, HasNames, IsFile, IsLowerName, IsWord, begin_line, born_line, db_line, done_line, dump_line, end_line, file_line, kind_line, lines_text, manifest_code, origin_lines, source_line, span_lines, version_line}
+use Rattle.dump_manifest.specs.Manifests.{Fits, HasNames, IsFile, IsLowerName, IsWord, done_line, file_line, lines_text, manifest_code, origin_lines, span_lines}
 use Rattle.dump_manifest.specs.Reading.{HasStopped, IsFault, MayFollow, at_begin, at_born, at_db, at_dump, at_end, at_file, at_kind, at_last, at_source, at_version}
-use Rattle.dump_manifest.proofs.Places.{follow_both, stopped_behind, text_both}
+use Rattle.dump_manifest.proofs.Places.{stopped_behind, text_both}
 
 pub origin_follows : (source : List ℕ) (dump : ℕ) (db : List ℕ) → IsLowerName db → MayFollow source dump at_version (origin_lines source db dump) at_kind
 origin_follows source dump db name = (at_source, (refl, refl), (at_db, (refl, refl), (at_dump, (db, name, refl, refl), (at_kind, (refl, refl), refl))))
@@ -33,7 +33,7 @@ fault_is source dump text rest fault stopped is =
     let short = rest_short source dump text rest stopped in
     subst (λ f. IsFault source dump text f) (sym is) (rest, stopped, omega (arith, short))
 
--- ---- stops behind the first lines
+-- ---- stops after the first lines
 
 pub stop_span : (source : List ℕ) (dump : ℕ) (db text behind rest : List ℕ) → IsLowerName db → text ≡ lines_text (origin_lines source db dump) ++ behind
     → HasStopped source dump at_kind behind rest → HasStopped source dump at_version text rest
@@ -45,9 +45,9 @@ pub stop_files : (source : List ℕ) (dump : ℕ) (db text behind after rest : L
     → behind ≡ lines_text (span_lines b begin end born) ++ after → HasStopped source dump (at_file b 0 0) after rest → HasStopped source dump at_version text rest
 stop_files source dump db text behind after rest b begin end born name split range word split' stopped =
     stop_span source dump db text behind rest name split
-      (stopped_behind source dump at_kind (at_file b 0 0) (span_lines b begin end born) behind after rest (span_follows source dump b begin end born range word) split' stopped)
+    (stopped_behind source dump at_kind (at_file b 0 0) (span_lines b begin end born) behind after rest (span_follows source dump b begin end born range word) split' stopped)
 
--- bytes behind the last line
+-- bytes after the last line
 pub stop_last : (source : List ℕ) (dump : ℕ) (b : Bool) (files : List FileLine) (text rest : List ℕ)
     → MayFollow source dump (at_file b 0 0) (map file_line files ++ done_line ∷ []) at_last → text ≡ lines_text (map file_line files ++ done_line ∷ []) ++ rest
     → (rest ≡ [] → ⊥) → HasStopped source dump (at_file b 0 0) text rest
@@ -66,10 +66,10 @@ whole source dump db text behind after rest b begin end born files name split ra
     let n : Manifest = record { source = source; db = db; dump = dump; bootstrap = b; begin = begin; end = end; born = born; files = files } in
     let is : n ≡ m = λ i. record { source = sym p1 i; db = sym p2 i; dump = sym p3 i; bootstrap = sym p4 i; begin = sym p5 i; end = sym p6 i; born = sym p7 i; files = sym p8 i } in
     let last : after ≡ lines_text (map file_line files ++ done_line ∷ []) =
-      split'' ∙ (ap (λ t. lines_text (map file_line files ++ done_line ∷ []) ++ t) over ∙ append-nil (lines_text (map file_line files ++ done_line ∷ []))) in
+    split'' ∙ (ap (λ t. lines_text (map file_line files ++ done_line ∷ []) ++ t) over ∙ append-nil (lines_text (map file_line files ++ done_line ∷ []))) in
     let spelled : text ≡ manifest_code n =
-      split ∙ (ap (λ t. lines_text (origin_lines source db dump) ++ t) (split' ∙ (ap (λ t. lines_text (span_lines b begin end born) ++ t) last
-        ∙ sym (text_both (span_lines b begin end born) (map file_line files ++ done_line ∷ []))))
-      ∙ sym (text_both (origin_lines source db dump) (span_lines b begin end born ++ (map file_line files ++ done_line ∷ [])))) in
+    split ∙ (ap (λ t. lines_text (origin_lines source db dump) ++ t) (split' ∙ (ap (λ t. lines_text (span_lines b begin end born) ++ t) last
+    ∙ sym (text_both (span_lines b begin end born) (map file_line files ++ done_line ∷ []))))
+    ∙ sym (text_both (origin_lines source db dump) (span_lines b begin end born ++ (map file_line files ++ done_line ∷ [])))) in
     let fits : Fits source dump n = record { its_source = refl; its_dump = refl; db = name; range = range; born = word; files = fit; names = names } in
     subst (λ k. (text ≡ manifest_code k) × Fits source dump k) is (spelled, fits)

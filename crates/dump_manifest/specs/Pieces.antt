@@ -1,7 +1,6 @@
 -- Pieces at the front of a text: a word, a line, and the line of a value.
 use Rattle.std.specs.Prelude.{◌≡◌, ◌≢◌, ⊤, ℕ, suc, ◌≤◌, ◌==◌, List, [], ◌∷◌, ◌++◌, Bool, true, false, cond, Option, None, Some, codes, decimal}
 use Rattle.hex.specs.Hex.{encode_lower}
-use Rattle.dump_manifest.specs.declared.manifest.FileLine.{FileLine}
 use Rattle.dump_manifest.specs.Manifests.{HasItems, IsDigest, IsLowerName, IsWord, begin_line, born_line, db_line, end_line, event_name, item_name, kind_line, with_lf}
 use Rattle.dump_manifest.specs.Reading.{Kind}
 
@@ -37,14 +36,14 @@ born_of = record { Fits = IsWord; code = born_line }
 abbrev pub tail_of : Kind (ℕ × List ℕ)
 tail_of = record { Fits = λ p. IsWord p.0 × IsDigest 32 p.1; code = λ p. decimal p.0 ++ (codes " " ++ encode_lower p.1) }
 
--- a word, and behind it the text of a value
+-- a word, and after it the text of a value
 abbrev pub prefixed : {T : Type 0} → List ℕ → Kind T → Kind T
 prefixed word kind = record { Fits = kind.Fits; code = λ v. word ++ kind.code v }
 
 abbrev pub spaced : Kind (ℕ × List ℕ)
 spaced = prefixed (codes " ") tail_of
 
--- the line of the file with this number, behind a word that ends in `i` or `e`
+-- the line of the file with this number, after a word that ends in `i` or `e`
 abbrev pub named : List ℕ → ℕ → Kind (ℕ × List ℕ)
 named word n = prefixed word (prefixed (decimal n) spaced)
 
@@ -53,7 +52,7 @@ abbrev pub lacks_lf : List ℕ → Bool
 lacks_lf [] = true
 lacks_lf (b ∷ bytes) = cond (b == 10) false (lacks_lf bytes)
 
--- the bytes before the first LF, and those behind it: a byte that is an LF, or not, before what is cut later
+-- the bytes before the first LF, and those after it: a byte that is an LF, or not, before what is cut later
 abbrev pub cut_by : Bool → ℕ → List ℕ → Option (List ℕ × List ℕ) → Option (List ℕ × List ℕ)
 cut_by true b bytes later = Some ([], bytes)
 cut_by false b bytes None = None
@@ -65,7 +64,7 @@ cut_line (b ∷ bytes) = cut_by (b == 10) b bytes (cut_line bytes)
 
 -- ---- the next file
 
--- a file of items may come in a bootstrap dump, where no file of events stands before; and one of events behind all those of items
+-- a file of items may come in a bootstrap dump, where no file of events stands before; and one of events after all those of items
 abbrev pub MayCome : Bool → ℕ → ℕ → Bool → Type 0
 MayCome bootstrap items events true = (bootstrap ≡ true) × (events ≡ 0)
 MayCome bootstrap items events false = HasItems bootstrap items

@@ -1,5 +1,5 @@
--- Where a text stops to be a manifest: at the first line that may not stand behind those before it.
-use Rattle.std.specs.Prelude.{◌≡◌, ◌≢◌, ◌⊎◌, ⊤, ◌+◌, ℕ, suc, ◌<◌, ◌≤◌, ◌==◌, List, [], ◌∷◌, ◌++◌, Bool, true, false, cond, Option, None, Some, codes, decimal, length}
+-- Where a text stops to be a manifest: at the first line that may not stand after those before it.
+use Rattle.std.specs.Prelude.{◌≡◌, ◌≢◌, ◌⊎◌, ⊤, ◌+◌, ℕ, suc, ◌≤◌, List, [], ◌∷◌, ◌++◌, Bool, true, Option, None, Some, decimal, length}
 use Rattle.hex.specs.Hex.{encode_lower}
 use Rattle.dump_manifest.specs.declared.manifest.FileLine.{FileLine}
 use Rattle.dump_manifest.specs.declared.manifest.ManifestFault.{ManifestFault}
@@ -48,7 +48,7 @@ pub data Place : Type 0 where
   at_born : Bool → Place
   -- and how many files of items and of events stand before
   at_file : Bool → ℕ → ℕ → Place
-  -- behind the last line
+  -- after the last line
   at_last : Place
 
 -- the next file is of items, where no file of events stands before; or it is of events
@@ -57,7 +57,7 @@ IsNextFile bootstrap items events name place =
     ((bootstrap ≡ true) × (events ≡ 0) × (name ≡ item_name items) × (place ≡ at_file bootstrap (suc items) events))
     ⊎ (HasItems bootstrap items × (name ≡ event_name events) × (place ≡ at_file bootstrap items (suc events)))
 
--- in a manifest of this store's dump with this number: the line may stand at the first place, and the second is that behind it
+-- in a manifest of this store's dump with this number: the line may stand at the first place, and the second is that after it
 abbrev pub MayStand : List ℕ → ℕ → Place → List ℕ → Place → Type 0
 MayStand source dump at_version line place = (line ≡ version_line) × (place ≡ at_source)
 MayStand source dump at_source line place = (line ≡ source_line source) × (place ≡ at_db)
@@ -73,17 +73,17 @@ MayStand source dump (at_file bootstrap items events) line place =
     ⊎ (HasItems bootstrap items × (line ≡ done_line) × (place ≡ at_last))
 MayStand source dump at_last line place = ⊥
 
--- these lines may stand behind one another from the first place on, and the second is that behind them
+-- these lines may stand after one another from the first place on, and the second is that after them
 abbrev pub MayFollow : List ℕ → ℕ → Place → List (List ℕ) → Place → Type 0
 MayFollow source dump from [] to = from ≡ to
 MayFollow source dump from (line ∷ lines) to = (next : Place) × MayStand source dump from line next × MayFollow source dump next lines to
 
--- no line that may stand at this place begins the text; and behind the last line stands something
+-- no line that may stand at this place begins the text; and after the last line stands something
 pub record IsStuck (source : List ℕ) (dump : ℕ) (place : Place) (text : List ℕ) : Type 0 where
   pub no_line : (line behind : List ℕ) (next : Place) → MayStand source dump place line next → text ≢ with_lf line ++ behind
   pub not_over : place ≡ at_last → text ≢ []
 
--- lines that may stand from this place on, and behind them nothing goes on
+-- lines that may stand from this place on, and after them nothing goes on
 abbrev pub HasStopped : List ℕ → ℕ → Place → List ℕ → List ℕ → Type 0
 HasStopped source dump from text rest =
     (lines : List (List ℕ)) × (place : Place) × (text ≡ lines_text lines ++ rest)

@@ -40,7 +40,7 @@ pub fn read_dir(dir: &str) -> Option<([u8; 16], u64)>
     read_parts(digits, dump)
 }
 
-// The id that these are the digits of, and the number behind a dash.
+// The id that these are the digits of, and the number after a dash.
 fn read_parts(digits: &[u8], dump: &[u8]) -> Option<([u8; 16], u64)>
     ensures some { IfSome result (λ found. dir_of.Fits found
         × (digits.now ≡ encode_lower found.0) × (dump.now ≡ codes "-" ++ decimal found.1)) }

@@ -15,7 +15,7 @@ const DIGEST_END: usize = 65;
 /// A file's length and digest.
 pub type Tail = (u64, [u8; 32]);
 
-/// The length and the digest of the file with this number, behind a word that ends in `i` or `e`,
+/// The length and the digest of the file with this number, after a word that ends in `i` or `e`,
 /// and what follows its line.
 pub fn take_named<'a>(text: &'a [u8], word: &[u8], number: u64) -> Option<(Tail, &'a [u8])>
     requires { lacks_lf word.now ≡ true }
@@ -68,7 +68,7 @@ fn read_tail(text: &[u8]) -> Option<Tail>
     read_parts(digits, digest)
 }
 
-// The number that these are the digits of, and the bytes behind a space.
+// The number that these are the digits of, and the bytes after a space.
 fn read_parts(digits: &[u8], digest: &[u8]) -> Option<Tail>
     ensures some { IfSome result (λ found. tail_of.Fits found
         × (digits.now ≡ decimal found.0) × (digest.now ≡ codes " " ++ encode_lower found.1)) }
@@ -127,9 +127,5 @@ fn take_event(text: &[u8], bootstrap: bool, items: u64, events: u64) -> Option<(
 pub fn has_items(bootstrap: bool, items: u64) -> bool
     ensures { IsTrue result ↔ HasItems bootstrap items }
 {
-    if bootstrap {
-        items > 0
-    } else {
-        items == 0
-    }
+    if bootstrap { items > 0 } else { items == 0 }
 }

@@ -24,10 +24,14 @@ pub struct Span {
 
 /// The name of the database, which a dump of this store with this number tells in its first lines,
 /// and what follows; or the text from the first line on that breaks a rule.
-pub fn read_origin<'a>(text: &'a [u8], source: &[u8; 16], dump: u64) -> Result<(&'a str, &'a [u8]), &'a [u8]>
+pub fn read_origin<'a>(
+    text: &'a [u8],
+    source: &[u8; 16],
+    dump: u64,
+) -> Result<(&'a str, &'a [u8]), &'a [u8]>
     ensures { MatchResult result
         (λ found. IsLowerName found.0.now
-            × (text.now ≡ lines_text (origin_lines source.now found.0.now dump) ++ found.1.now))
+        × (text.now ≡ lines_text (origin_lines source.now found.0.now dump) ++ found.1.now))
         (λ rest. HasStopped source.now dump at_version text.now rest.now) }
 {
     let Some(after_version) = take_version(text) else {
@@ -45,12 +49,12 @@ pub fn read_origin<'a>(text: &'a [u8], source: &[u8; 16], dump: u64) -> Result<(
     Ok((db, after_dump))
 }
 
-/// What the lines behind those tell, and what follows; or the text from the first line on that breaks
+/// What the lines after those tell, and what follows; or the text from the first line on that breaks
 /// a rule.
 pub fn read_span(text: &[u8]) -> Result<(Span, &[u8]), &[u8]>
     ensures { MatchResult result
         (λ found. IsWord found.0.born × (found.0.begin ≤ found.0.end) × (found.0.end ≤ 9223372036854775807)
-            × (text.now ≡ lines_text (span_lines found.0.bootstrap found.0.begin found.0.end found.0.born) ++ found.1.now))
+        × (text.now ≡ lines_text (span_lines found.0.bootstrap found.0.begin found.0.end found.0.born) ++ found.1.now))
         (λ rest. (source : List ℕ) (dump : ℕ) → HasStopped source dump at_kind text.now rest.now) }
 {
     let Some((bootstrap, after_kind)) = take_kind(text) else {
@@ -65,7 +69,12 @@ pub fn read_span(text: &[u8]) -> Result<(Span, &[u8]), &[u8]>
     let Some((born, after_born)) = take_born(after_end) else {
         return Err(after_end);
     };
-    let span = Span { bootstrap, begin, end, born };
+    let span = Span {
+        bootstrap,
+        begin,
+        end,
+        born,
+    };
     Ok((span, after_born))
 }
 

@@ -14,12 +14,16 @@ use std::alloc::Global;
 
 /// The files of a dump and what follows the last line; or the text from the first line on that
 /// breaks a rule.
-pub fn read_files(alloc: Global, bootstrap: bool, text: &[u8]) -> Result<Result<(Files, &[u8]), &[u8]>, NoMemory>
+pub fn read_files(
+    alloc: Global,
+    bootstrap: bool,
+    text: &[u8],
+) -> Result<Result<(Files, &[u8]), &[u8]>, NoMemory>
     ensures { IfOk result (λ read. MatchResult read
         (λ found. All IsFile found.0 × HasNames bootstrap found.0
-            × (text.now ≡ lines_text (map file_line found.0 ++ done_line ∷ []) ++ found.1.now)
-            × ((source : List ℕ) (dump : ℕ)
-                → MayFollow source dump (at_file bootstrap 0 0) (map file_line found.0 ++ done_line ∷ []) at_last))
+        × (text.now ≡ lines_text (map file_line found.0 ++ done_line ∷ []) ++ found.1.now)
+        × ((source : List ℕ) (dump : ℕ)
+        → MayFollow source dump (at_file bootstrap 0 0) (map file_line found.0 ++ done_line ∷ []) at_last))
         (λ rest. (source : List ℕ) (dump : ℕ) → HasStopped source dump (at_file bootstrap 0 0) text.now rest.now)) }
 {
     let mut files = Files::new(alloc);
@@ -37,7 +41,7 @@ pub fn read_files(alloc: Global, bootstrap: bool, text: &[u8]) -> Result<Result<
     }
 }
 
-// What follows the last line, which may stand behind so many files of items.
+// What follows the last line, which may stand after so many files of items.
 fn take_done(text: &[u8], bootstrap: bool, items: u64) -> Option<&[u8]>
     ensures some { IfSome (option_copied result) (λ rest. HasItems bootstrap items
         × (text.now ≡ with_lf done_line ++ rest)) }
@@ -57,7 +61,7 @@ fn take_last(text: &[u8]) -> Option<&[u8]>
     strip_line(text, b"done")
 }
 
-// How many files of items there are behind one more file.
+// How many files of items there are after one more file.
 fn items_after(items: u64, is_item: bool) -> u64
     requires { items < 2 ^ 63 }
     ensures { result ≡ items_after is_item items }
@@ -71,8 +75,16 @@ fn file_of(alloc: Global, found: Found, items: u64, events: u64) -> Result<FileL
         × (file.length ≡ found.1.0) × (file.digest ≡ found.1.1)) }
 {
     let (is_item, (length, digest)) = found;
-    let name = if is_item { item_name(alloc, items)? } else { event_name(alloc, events)? };
-    Ok(FileLine { name, length, digest })
+    let name = if is_item {
+        item_name(alloc, items)?
+    } else {
+        event_name(alloc, events)?
+    };
+    Ok(FileLine {
+        name,
+        length,
+        digest,
+    })
 }
 
 fn item_name(alloc: Global, number: u64) -> Result<Text, NoMemory>

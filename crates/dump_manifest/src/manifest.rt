@@ -30,7 +30,7 @@ pub struct Manifest {
     pub dump: u64,
     /// Whether the dump has the database itself, and not its events alone.
     pub bootstrap: bool,
-    /// The number of the event behind which the dump begins.
+    /// The number of the event after which the dump begins.
     pub begin: u64,
     /// The number of the last event that the dump may have.
     pub end: u64,

@@ -1,4 +1,4 @@
-use Rattle.std.proofs.Common.{rules, ap, arith, sym, ◌∙◌}
+use Rattle.std.proofs.Common.{rules}
 use Rattle.dump_manifest.proofs.Folders.{dir_read, short_dir}
 use Rattle.dump_manifest.proofs.dirs.read_dir.Goals as goal
 

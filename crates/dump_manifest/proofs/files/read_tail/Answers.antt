@@ -1,4 +1,4 @@
-use Rattle.std.proofs.Common.{arith, rules}
+use Rattle.std.proofs.Common.{arith}
 use Rattle.dump_manifest.proofs.Tails.{short_tail, tail_read}
 use Rattle.dump_manifest.proofs.files.read_tail.Goals as goal
 

@@ -1,4 +1,4 @@
-use Rattle.std.proofs.Common.{rules, subst, sym}
+use Rattle.std.proofs.Common.{subst, sym}
 use Rattle.std.specs.Str.{IsUtf8}
 use Rattle.dump_manifest.proofs.Names.{name_utf8}
 use Rattle.dump_manifest.proofs.heads.read_name.Goals as goal

@@ -9,7 +9,7 @@ returns-in_default-take_begin c = λ s d.
     let k = c.in-Some.bootstrap in
     let a = c.in-Some.after_kind.now in
     stopped_later s d at_kind (at_begin k) (kind_line k) c.args.text.now a a (k, refl, refl) c.in-Some.ensures.1
-      (stopped_here s d (at_begin k) a (stuck_begin s d k a c.in_default-take_begin.ensures))
+    (stopped_here s d (at_begin k) a (stuck_begin s d k a c.in_default-take_begin.ensures))
 
 pub returns-in_default-take_end : goal.returns-in_default-take_end
 returns-in_default-take_end c = λ s d.
@@ -18,8 +18,8 @@ returns-in_default-take_end c = λ s d.
     let n = c.in-Some-take_begin.begin in
     let b = c.in-Some-take_begin.after_begin.now in
     stopped_later s d at_kind (at_begin k) (kind_line k) c.args.text.now a b (k, refl, refl) c.in-Some.ensures.1
-      (stopped_later s d (at_begin k) (at_end k n) (begin_line n) a b b (n, c.in-Some-take_begin.ensures.0, refl, refl) c.in-Some-take_begin.ensures.1
-        (stopped_here s d (at_end k n) b (stuck_end s d k n b c.in_default-take_end.ensures)))
+    (stopped_later s d (at_begin k) (at_end k n) (begin_line n) a b b (n, c.in-Some-take_begin.ensures.0, refl, refl) c.in-Some-take_begin.ensures.1
+    (stopped_here s d (at_end k n) b (stuck_end s d k n b c.in_default-take_end.ensures)))
 
 pub returns-in_default-take_born : goal.returns-in_default-take_born
 returns-in_default-take_born c = λ s d.
@@ -30,6 +30,6 @@ returns-in_default-take_born c = λ s d.
     let m = c.in-Some-take_end.end in
     let e = c.in-Some-take_end.after_end.now in
     stopped_later s d at_kind (at_begin k) (kind_line k) c.args.text.now a e (k, refl, refl) c.in-Some.ensures.1
-      (stopped_later s d (at_begin k) (at_end k n) (begin_line n) a b e (n, c.in-Some-take_begin.ensures.0, refl, refl) c.in-Some-take_begin.ensures.1
-        (stopped_later s d (at_end k n) (at_born k) (end_line m) b e e (m, c.in-Some-take_end.ensures.0, refl, refl) c.in-Some-take_end.ensures.1
-          (stopped_here s d (at_born k) e (stuck_born s d k e c.in_default-take_born.ensures))))
+    (stopped_later s d (at_begin k) (at_end k n) (begin_line n) a b e (n, c.in-Some-take_begin.ensures.0, refl, refl) c.in-Some-take_begin.ensures.1
+    (stopped_later s d (at_end k n) (at_born k) (end_line m) b e e (m, c.in-Some-take_end.ensures.0, refl, refl) c.in-Some-take_end.ensures.1
+    (stopped_here s d (at_born k) e (stuck_born s d k e c.in_default-take_born.ensures))))

@@ -1,4 +1,4 @@
-use Rattle.std.proofs.Common.{arith, rules}
+use Rattle.std.proofs.Common.{arith}
 use Rattle.dump_manifest.proofs.Places.{end_none, end_outside, end_some}
 use Rattle.dump_manifest.proofs.heads.take_end.Goals as goal
 

@@ -9,7 +9,7 @@ fault_at-requires-in-Err-read_span c =
     let d = c.args.dump in
     let rest = c.in-Err-read_span.rest.now in
     rest_short s d c.args.text.now rest
-      (stop_span s d c.in-Ok.found.0.now c.args.text.now c.in-Ok.found.1.now rest c.in-Ok.ensures.0 c.in-Ok.ensures.1 (c.in-Err-read_span.ensures s d))
+    (stop_span s d c.in-Ok.found.0.now c.args.text.now c.in-Ok.found.1.now rest c.in-Ok.ensures.0 c.in-Ok.ensures.1 (c.in-Err-read_span.ensures s d))
 
 pub returns-in-Err-read_span : goal.returns-in-Err-read_span
 returns-in-Err-read_span c =
@@ -17,8 +17,8 @@ returns-in-Err-read_span c =
     let d = c.args.dump in
     let rest = c.in-Err-read_span.rest.now in
     fault_is s d c.args.text.now rest c.fault_at-in-Err-read_span.result
-      (stop_span s d c.in-Ok.found.0.now c.args.text.now c.in-Ok.found.1.now rest c.in-Ok.ensures.0 c.in-Ok.ensures.1 (c.in-Err-read_span.ensures s d))
-      c.fault_at-in-Err-read_span.ensures
+    (stop_span s d c.in-Ok.found.0.now c.args.text.now c.in-Ok.found.1.now rest c.in-Ok.ensures.0 c.in-Ok.ensures.1 (c.in-Err-read_span.ensures s d))
+    c.fault_at-in-Err-read_span.ensures
 
 pub fault_at-requires-in-Err-2 : goal.fault_at-requires-in-Err-2
 fault_at-requires-in-Err-2 c =
@@ -28,8 +28,8 @@ fault_at-requires-in-Err-2 c =
     let told = c.in-Ok-read_span.ensures in
     let halted = rw c.in-Err-2.is at c.in_ok-found.ensures in
     rest_short s d c.args.text.now c.in-Err-2.rest.now
-      (stop_files s d c.in-Ok.found.0.now c.args.text.now c.in-Ok.found.1.now c.in-Ok-read_span.found.1.now c.in-Err-2.rest.now span.bootstrap span.begin span.end span.born
-        c.in-Ok.ensures.0 c.in-Ok.ensures.1 (told.1, told.2) told.0 told.3 (halted s d))
+    (stop_files s d c.in-Ok.found.0.now c.args.text.now c.in-Ok.found.1.now c.in-Ok-read_span.found.1.now c.in-Err-2.rest.now span.bootstrap span.begin span.end span.born
+    c.in-Ok.ensures.0 c.in-Ok.ensures.1 (told.1, told.2) told.0 told.3 (halted s d))
 
 pub returns-in-Err-2 : goal.returns-in-Err-2
 returns-in-Err-2 c =
@@ -39,9 +39,9 @@ returns-in-Err-2 c =
     let told = c.in-Ok-read_span.ensures in
     let halted = rw c.in-Err-2.is at c.in_ok-found.ensures in
     fault_is s d c.args.text.now c.in-Err-2.rest.now c.fault_at-in-Err-2.result
-      (stop_files s d c.in-Ok.found.0.now c.args.text.now c.in-Ok.found.1.now c.in-Ok-read_span.found.1.now c.in-Err-2.rest.now span.bootstrap span.begin span.end span.born
-        c.in-Ok.ensures.0 c.in-Ok.ensures.1 (told.1, told.2) told.0 told.3 (halted s d))
-      c.fault_at-in-Err-2.ensures
+    (stop_files s d c.in-Ok.found.0.now c.args.text.now c.in-Ok.found.1.now c.in-Ok-read_span.found.1.now c.in-Err-2.rest.now span.bootstrap span.begin span.end span.born
+    c.in-Ok.ensures.0 c.in-Ok.ensures.1 (told.1, told.2) told.0 told.3 (halted s d))
+    c.fault_at-in-Err-2.ensures
 
 pub fault_at-requires-then-has_more : goal.fault_at-requires-then-has_more
 fault_at-requires-then-has_more c =
@@ -52,9 +52,9 @@ fault_at-requires-then-has_more c =
     let read = rw c.in-Ok-2.is at c.in_ok-found.ensures in
     let rest = c.in-Ok-2.found.1.now in
     rest_short s d c.args.text.now rest
-      (stop_files s d c.in-Ok.found.0.now c.args.text.now c.in-Ok.found.1.now c.in-Ok-read_span.found.1.now rest span.bootstrap span.begin span.end span.born
-        c.in-Ok.ensures.0 c.in-Ok.ensures.1 (told.1, told.2) told.0 told.3
-        (stop_last s d span.bootstrap c.in-Ok-2.found.0 c.in-Ok-read_span.found.1.now rest (read.3 s d) read.2 (c.has_more.ensures.some c.if-has_more.true)))
+    (stop_files s d c.in-Ok.found.0.now c.args.text.now c.in-Ok.found.1.now c.in-Ok-read_span.found.1.now rest span.bootstrap span.begin span.end span.born
+    c.in-Ok.ensures.0 c.in-Ok.ensures.1 (told.1, told.2) told.0 told.3
+    (stop_last s d span.bootstrap c.in-Ok-2.found.0 c.in-Ok-read_span.found.1.now rest (read.3 s d) read.2 (c.has_more.ensures.some c.if-has_more.true)))
 
 pub returns-then-has_more : goal.returns-then-has_more
 returns-then-has_more c =
@@ -65,10 +65,10 @@ returns-then-has_more c =
     let read = rw c.in-Ok-2.is at c.in_ok-found.ensures in
     let rest = c.in-Ok-2.found.1.now in
     fault_is s d c.args.text.now rest c.fault_at-then-has_more.result
-      (stop_files s d c.in-Ok.found.0.now c.args.text.now c.in-Ok.found.1.now c.in-Ok-read_span.found.1.now rest span.bootstrap span.begin span.end span.born
-        c.in-Ok.ensures.0 c.in-Ok.ensures.1 (told.1, told.2) told.0 told.3
-        (stop_last s d span.bootstrap c.in-Ok-2.found.0 c.in-Ok-read_span.found.1.now rest (read.3 s d) read.2 (c.has_more.ensures.some c.if-has_more.true)))
-      c.fault_at-then-has_more.ensures
+    (stop_files s d c.in-Ok.found.0.now c.args.text.now c.in-Ok.found.1.now c.in-Ok-read_span.found.1.now rest span.bootstrap span.begin span.end span.born
+    c.in-Ok.ensures.0 c.in-Ok.ensures.1 (told.1, told.2) told.0 told.3
+    (stop_last s d span.bootstrap c.in-Ok-2.found.0 c.in-Ok-read_span.found.1.now rest (read.3 s d) read.2 (c.has_more.ensures.some c.if-has_more.true)))
+    c.fault_at-then-has_more.ensures
 
 pub returns : goal.returns
 returns c =
@@ -89,5 +89,5 @@ returns c =
       files = c.in-Ok-2.found.0;
     } in
     whole s d c.in-Ok.found.0.now c.args.text.now c.in-Ok.found.1.now c.in-Ok-read_span.found.1.now rest span.bootstrap span.begin span.end span.born c.in-Ok-2.found.0
-      c.in-Ok.ensures.0 c.in-Ok.ensures.1 (told.1, told.2) told.0 told.3 read.0 read.1 read.2 (c.has_more.ensures.none c.if-has_more.false)
-      m refl c.in_ok-name_text.ensures refl refl refl refl refl refl
+    c.in-Ok.ensures.0 c.in-Ok.ensures.1 (told.1, told.2) told.0 told.3 read.0 read.1 read.2 (c.has_more.ensures.none c.if-has_more.false)
+    m refl c.in_ok-name_text.ensures refl refl refl refl refl refl

@@ -1,4 +1,4 @@
-use Rattle.std.proofs.Common.{decimal, rules, ◌∙◌}
+use Rattle.std.proofs.Common.{decimal, ◌∙◌}
 use Rattle.dump_manifest.proofs.Spelled.{digits_parse, digits_utf8, is_not_err, is_the_same, spelled_again}
 use Rattle.dump_manifest.proofs.values.number_of.Goals as goal
 
