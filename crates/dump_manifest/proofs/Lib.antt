@@ -1,0 +1,12 @@
+pub mod Spelled
+pub mod Words
+pub mod Folders
+pub mod Cutting
+pub mod Pieces
+pub mod Names
+pub mod Places
+pub mod Tails
+pub mod Rows
+pub mod Apart
+pub mod Readings
+pub mod Whole
