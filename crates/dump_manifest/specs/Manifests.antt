@@ -11,7 +11,7 @@ use Rattle.dump_manifest.specs.declared.manifest.Manifest.{Manifest}
 abbrev pub dir_text : List ℕ → ℕ → List ℕ
 dir_text source dump = encode_lower source ++ (codes "-" ++ decimal dump)
 
--- ---- the lines of a manifest, without their LFs
+-- ---- the lines of a manifest, without their LFs: a word, and for most a value after it
 
 unfoldable pub version_line : List ℕ
 version_line = codes "hms-dump 1"

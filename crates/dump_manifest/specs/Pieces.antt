@@ -14,21 +14,27 @@ abbrev pub Fronts : {T : Type 0} → Kind T → List ℕ → Option (T × List �
 Fronts kind text (Some front) = kind.Fits front.0 × (text ≡ with_lf (kind.code front.0) ++ front.1)
 Fronts {T} kind text None = (value : T) (rest : List ℕ) → kind.Fits value → text ≢ with_lf (kind.code value) ++ rest
 
+-- a lower-case object name, which is its own text
 abbrev pub name_of : Kind (List ℕ)
 name_of = record { Fits = IsLowerName; code = λ name. name }
 
+-- the line of a database
 abbrev pub db_of : Kind (List ℕ)
 db_of = record { Fits = IsLowerName; code = db_line }
 
+-- the line that tells whether a dump is a bootstrap dump
 abbrev pub kind_of : Kind Bool
 kind_of = record { Fits = λ b. ⊤; code = kind_line }
 
+-- the line of the number after which the events begin
 abbrev pub begin_of : Kind ℕ
 begin_of = record { Fits = IsWord; code = begin_line }
 
+-- the line of the number at which the events end, which is not below where they begin
 abbrev pub end_of : ℕ → Kind ℕ
 end_of begin = record { Fits = λ n. (begin ≤ n) × (n ≤ 9223372036854775807); code = end_line }
 
+-- the line of the event that made the database
 abbrev pub born_of : Kind ℕ
 born_of = record { Fits = IsWord; code = born_line }
 
@@ -40,6 +46,7 @@ tail_of = record { Fits = λ p. IsWord p.0 × IsDigest 32 p.1; code = λ p. deci
 abbrev pub prefixed : {T : Type 0} → List ℕ → Kind T → Kind T
 prefixed word kind = record { Fits = kind.Fits; code = λ v. word ++ kind.code v }
 
+-- the same after a space
 abbrev pub spaced : Kind (ℕ × List ℕ)
 spaced = prefixed (codes " ") tail_of
 
@@ -58,6 +65,7 @@ cut_by true b bytes later = Some ([], bytes)
 cut_by false b bytes None = None
 cut_by false b bytes (Some cut) = Some (b ∷ cut.0, cut.1)
 
+-- the first line without its LF, and what follows
 abbrev pub cut_line : List ℕ → Option (List ℕ × List ℕ)
 cut_line [] = None
 cut_line (b ∷ bytes) = cut_by (b == 10) b bytes (cut_line bytes)
@@ -82,12 +90,14 @@ items_after false items = items
 abbrev pub line_of : List ℕ → ℕ → List ℕ → List ℕ
 line_of name length digest = codes "file " ++ (name ++ (codes " " ++ (decimal length ++ (codes " " ++ encode_lower digest))))
 
+-- the line of a file of items, or of one of events, that comes next
 abbrev pub came : Bool → ℕ → ℕ → Bool → Kind (ℕ × List ℕ)
 came bootstrap items events is_item = record {
   Fits = λ p. MayCome bootstrap items events is_item × IsWord p.0 × IsDigest 32 p.1;
   code = λ p. line_of (next_name is_item items events) p.0 p.1;
 }
 
+-- the line of the next file, and whether it is of items
 abbrev pub next_of : Bool → ℕ → ℕ → Kind (Bool × (ℕ × List ℕ))
 next_of bootstrap items events = record {
   Fits = λ p. (came bootstrap items events p.0).Fits p.1;

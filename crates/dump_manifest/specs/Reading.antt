@@ -18,9 +18,11 @@ abbrev pub IsReadAs : {T : Type 0} → Kind T → List ℕ → Option T → Type
 IsReadAs kind text (Some value) = kind.Fits value × (text ≡ kind.code value)
 IsReadAs {T} kind text None = (value : T) → kind.Fits value → text ≢ kind.code value
 
+-- a number is its decimal digits
 abbrev pub number : Kind ℕ
 number = record { Fits = IsWord; code = decimal }
 
+-- so many bytes are their hexadecimal digits in lower case
 abbrev pub hex_of : ℕ → Kind (List ℕ)
 hex_of count = record { Fits = IsDigest count; code = encode_lower }
 
@@ -93,6 +95,7 @@ HasStopped source dump from text rest =
 abbrev pub Stops : List ℕ → ℕ → ℕ → List ℕ → Type 0
 Stops source dump at text = (rest : List ℕ) × HasStopped source dump at_version text rest × (length text ≡ at + length rest)
 
+-- why a text is not read: it stops at this offset, or memory was refused
 abbrev pub IsFault : List ℕ → ℕ → List ℕ → ManifestFault → Type 0
 IsFault source dump text (Grammar at) = Stops source dump at text
 IsFault source dump text NoMemory = ⊤
