@@ -80,7 +80,7 @@ left_alone o past head ps doubt sure = started o past (LeavesOpen head ps doubt)
 -- want of memory before the journal was touched
 pub unlogged : (o : Option Written) (v : Seen) → IsSure v → IfSome o (λ w. Logged w (refused_so fault.NoMemory) v v)
 unlogged None v sure = tt
-unlogged (Some w) v sure = record { payload = None; spells = refl; ran = rested v sure true; cause = λ is. absurd is }
+unlogged (Some w) v sure = record { payload = None; spells = refl; ran = rested v sure true; cause = λ is. absurd cc }
 
 -- a payload that spells the entry was added, or wasn't
 pub logged : (o : Option Written) (payload : List ℕ) (r : Result (Unit {0}) StoreFault) (v u : Seen) → spelled payload ≡ o → Ran (Some payload) (is_err r) v u → (IsErrOf r fault.DiskFault → Rose v.faults u.faults) → IfSome o (λ w. Logged w r v u)

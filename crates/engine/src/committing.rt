@@ -84,6 +84,8 @@ pub fn log_entry<D: Disk>(
     requires { IsSure (seen_by D.lies D.past D.faults journal.old) }
     ensures { IfSome (written_in entry.now) (λ written. Logged written result (seen_by D.lies D.past D.faults journal.old) (seen_by D.lies D.past D.faults journal.new)) }
 {
-    let payload = spell(alloc, entry)?;
-    commit(journal, &payload)
+    match spell(alloc, entry) {
+        Ok(payload) => commit(journal, &payload),
+        Err(NoMemory) => Err(StoreFault::NoMemory),
+    }
 }

@@ -99,10 +99,14 @@ impl Store {
         ensures log { Logged (drew dump.number) result (seen_by D.lies D.past D.faults journal.old) (seen_by D.lies D.past D.faults journal.new) }
     {
         self.dumps.room()?;
-        log_entry(self.alloc, journal, &Entry::DumpBegun(dump.number))?;
-        self.last_dump = dump.number;
-        self.dumps.open(dump);
-        Ok(())
+        match log_entry(self.alloc, journal, &Entry::DumpBegun(dump.number)) {
+            Ok(()) => {
+                self.last_dump = dump.number;
+                self.dumps.open(dump);
+                Ok(())
+            }
+            Err(fault) => Err(fault),
+        }
     }
 
     /// The next table of a dump.

@@ -41,9 +41,13 @@ impl Store {
         ensures err { OnErr result (self.new ≡ self.old) }
         ensures log { Logged (trimmed (end + 1)) result (seen_by D.lies D.past D.faults journal.old) (seen_by D.lies D.past D.faults journal.new) }
     {
-        log_entry(self.alloc, journal, &Entry::Trimmed(end + 1))?;
-        self.take_off(end);
-        Ok(())
+        match log_entry(self.alloc, journal, &Entry::Trimmed(end + 1)) {
+            Ok(()) => {
+                self.take_off(end);
+                Ok(())
+            }
+            Err(fault) => Err(fault),
+        }
     }
 
     // Takes off the kept events up to this one, in memory.
