@@ -9,7 +9,7 @@ use Rattle.cat_types.specs.declared.items.Item.{Item}
 use Rattle.cat_types.specs.declared.steps.Answer.{Answer}
 use Rattle.cat_types.specs.declared.steps.Answer.TheVariants as answer
 use Rattle.cat_types.specs.declared.steps.DumpRefusal.{DumpRefusal}
-use Rattle.cat_types.specs.declared.steps.DumpRefusal.TheVariants.{DatabaseGone, NoSuchDb, UsedUp}
+use Rattle.cat_types.specs.declared.steps.DumpRefusal.TheVariants.{BadRange, DatabaseGone, MissingEvents, UsedUp}
 use Rattle.cat_types.specs.declared.steps.Step.{Step}
 use Rattle.cat_types.specs.declared.steps.Step.TheVariants.{DumpBegin, DumpEnd, DumpEvents, DumpParts, DumpSeal, DumpTable}
 use Rattle.cat_values.specs.Maps.{first_after}
@@ -17,7 +17,7 @@ use Rattle.cat_values.specs.Names.{lower}
 use Rattle.desk.specs.State.{Beginning, State, Written, asked_for, begin_answer, beginning, beginning_by, drawn_by, drew, due, due_answer, dumps_begun, end_answer, may_want, opens, refused_dump, unbegun, untaken, with_dumps, with_written, writing}
 use Rattle.dump_steps.specs.Open.{open_dump, takes_events, takes_objects, with_sealed, without_dump}
 use Rattle.dump_steps.specs.Pieces.{answered_in, begun, first_item, is_taken_in, kind_of, next_events, next_parts, next_table, told_begun, told_table}
-use Rattle.dump_steps.specs.Ranges.{begin_refusal, is_used_up}
+use Rattle.dump_steps.specs.Ranges.{begin_refusal, is_bad_range, is_missing, is_too_early, is_used_up}
 use Rattle.dump_steps.specs.declared.ranges.Asked.{Asked}
 use Rattle.dump_steps.specs.declared.open_dumps.DumpKind.{DumpKind}
 use Rattle.dump_steps.specs.declared.open_dumps.OpenDump.{OpenDump}
@@ -51,7 +51,7 @@ begins_ready s caller name low asked held dump item is same none made first =
 
 -- a dump is refused where the numbers are used up
 pub not_used_up : (held : HeldDb) (first newest last : ℕ) (asked : Asked) → None ≡ begin_refusal (Some held) first newest last asked → is_used_up last ≡ false
-not_used_up held first newest last asked none = by_tests _ _ _ (is_used_up last) _ _ _ none
+not_used_up held first newest last asked none = by_tests (is_bad_range newest asked.from asked.to asked.limit) (is_too_early held.born asked.from) (is_missing first newest asked.from) (is_used_up last) BadRange (DatabaseGone held.born) (MissingEvents first) none
   where
     by_tests : (a b c d : Bool) (x y z : DumpRefusal) → None ≡ cond a (Some x) (cond b (Some y) (cond c (Some z) (cond d (Some UsedUp) None))) → d ≡ false
     by_tests a b c false x y z is = refl

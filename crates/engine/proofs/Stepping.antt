@@ -19,7 +19,7 @@ use Rattle.catalogue.specs.declared.poll.Poll.{Poll}
 use Rattle.desk.specs.Polls.{poll_reply}
 use Rattle.desk.specs.State.{State, Written, bars_of, decision_of, due, kept, next_event, reply_by, reply_in, with_dumps, with_written, writing, written_by, written_change}
 use Rattle.desk.proofs.Polled.{write_nothing}
-use Rattle.engine.proofs.Steps.{failed_by, nothing, same_dumps, stepped_failed, stepped_quiet, stepped_written, well}
+use Rattle.engine.proofs.Steps.{failed_by, nothing, same_dumps, stepped_failed, stepped_quiet, stepped_written, unit, well}
 use Rattle.engine.proofs.Tests.{all_of, first_of, last_of}
 use Rattle.engine.specs.Inside.{IsSure, Logged, Seen, Stepped, refused_by}
 use Rattle.engine.specs.Opening.{takes}
@@ -83,11 +83,11 @@ stepped_poll s caller call moment poll reply v is sure told =
 
 -- a change whose event was written
 pub stepped_change : (s t : State) (caller : ℕ) (call : Call) (moment : ℕ) (change : Change) (reply : Reply) (v u : Seen) → poll_of call ≡ None → decided.Change change reply ≡ told (decision_of s call moment) → takes_call s.catalogue (s.newest + 1) change ≡ true
-    → t ≡ with_written (Some (kept (next_event s moment change))) s → Logged (kept (next_event s moment change)) (well tt) v u
+    → t ≡ with_written (Some (kept (next_event s moment change))) s → Logged (kept (next_event s moment change)) (well unit) v u
     → Stepped s caller (Client call moment) (answer.Reply reply) t v u
 stepped_change s t caller call moment change reply v u none is takes_it done log =
     let w = a_change (decision_of s call moment) s moment change reply is (operates s.catalogue (s.newest + 1) change takes_it) in
-    stepped_written s t caller (Client call moment) (answer.Reply reply) (kept (next_event s moment change)) tt v u refl (due_reply s caller call moment reply none w.1) w.0 (event_taken s moment change takes_it)
+    stepped_written s t caller (Client call moment) (answer.Reply reply) (kept (next_event s moment change)) unit v u refl (due_reply s caller call moment reply none w.1) w.0 (event_taken s moment change takes_it)
     (done ∙ ap (λ (o : Option Written). with_written o s) (sym w.0) ∙ sym (same_dumps s (writing s (Client call moment)))) log
 
 -- one whose event wasn't written

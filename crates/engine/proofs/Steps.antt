@@ -65,6 +65,9 @@ stepped_wanting s caller step v wants sure = record {
 abbrev pub well : {T : Type 0} → T → Result T StoreFault
 well x = Ok x
 
+abbrev pub unit : Unit {0}
+unit = tt
+
 abbrev pub failed_by : (T : Type 0) → StoreFault → Result T StoreFault
 failed_by T f = Err f
 

@@ -6,7 +6,7 @@ use Rattle.cat_types.specs.declared.steps.Answer.TheVariants as answer
 use Rattle.cat_types.specs.declared.steps.Step.TheVariants.{Trim}
 use Rattle.desk.specs.State.{State, Written, due, first_after_trim, trimmed, with_dumps, with_written, writing, written_first}
 use Rattle.dump_steps.specs.Open.{first_kept, trim_end}
-use Rattle.engine.proofs.Steps.{failed_by, same_dumps, stepped_failed, stepped_quiet, stepped_written, well}
+use Rattle.engine.proofs.Steps.{failed_by, same_dumps, stepped_failed, stepped_quiet, stepped_written, unit, well}
 use Rattle.engine.proofs.Tests.{all_of}
 use Rattle.engine.specs.Inside.{IsSure, Logged, Seen, Stepped, refused_by}
 use Rattle.engine.specs.Opening.{takes}
@@ -42,10 +42,10 @@ taken_first s end le below = all_of (nat_lt s.first (end + 1)) (nat_le (end + 1)
 
 -- where some are
 pub stepped_cut : (s t : State) (caller : ℕ) (upto : ℤ) (end : ℕ) (v u : Seen) → end ≡ trim_end upto s.newest s.dumps → s.first ≤ end → end ≤ s.newest
-    → t ≡ with_written (Some (trimmed (end + 1))) s → Logged (trimmed (end + 1)) (well tt) v u → Stepped s caller (Trim upto) (answer.Kept (end + 1)) t v u
+    → t ≡ with_written (Some (trimmed (end + 1))) s → Logged (trimmed (end + 1)) (well unit) v u → Stepped s caller (Trim upto) (answer.Kept (end + 1)) t v u
 stepped_cut s t caller upto end v u is le below done log =
     let writes_it = writes_first s upto end is le in
-    stepped_written s t caller (Trim upto) (answer.Kept (end + 1)) (trimmed (end + 1)) tt v u refl (ap (λ (n : ℕ). answer.Kept n) (rises s upto end is le)) writes_it (taken_first s end le below)
+    stepped_written s t caller (Trim upto) (answer.Kept (end + 1)) (trimmed (end + 1)) unit v u refl (ap (λ (n : ℕ). answer.Kept n) (rises s upto end is le)) writes_it (taken_first s end le below)
     (done ∙ ap (λ (o : Option Written). with_written o s) (sym writes_it) ∙ sym (same_dumps s (writing s (Trim upto)))) log
 
 pub stepped_uncut_fault : (s t : State) (caller : ℕ) (upto : ℤ) (end : ℕ) (f : StoreFault) (v u : Seen) → end ≡ trim_end upto s.newest s.dumps → s.first ≤ end → end ≤ s.newest
