@@ -1,4 +1,6 @@
-use Rattle.std.proofs.Common.{◌∙◌, ap, rules}
+use Rattle.std.proofs.Common.{SFits, ◌≡◌, ◌∙◌, ap, rules, subst, w64}
+use Rattle.std.proofs.lemmas.Int.{to_z-of_z}
+use Rattle.std.specs.Prelude.{ℤ}
 use Rattle.desk.specs.State.{State}
 use Rattle.dump_steps.specs.Open.{trim_end}
 use Rattle.engine.proofs.Taking.{trim_below}
@@ -6,14 +8,16 @@ use Rattle.engine.proofs.Trims.{stepped_cut, stepped_uncut_fault}
 use Rattle.engine.proofs.store.Store.trim.Goals as goal
 
 pub cut-requires-clause-newest : goal.cut-requires-clause-newest
-cut-requires-clause-newest g c = trim_below c.args.upto _ _ _ (c.trim_end-end.ensures ∙ ap (λ (s : State). trim_end c.args.upto s.newest s.dumps) c.self.view_is)
+cut-requires-clause-newest g c = trim_below _ _ _ _ (c.trim_end-end.ensures ∙ ap (λ (s : State). trim_end _ s.newest s.dumps) c.self.view_is)
 
 pub returns-in-Ok : goal.returns-in-Ok
 returns-in-Ok g c =
-    let is = c.trim_end-end.ensures ∙ ap (λ (s : State). trim_end c.args.upto s.newest s.dumps) c.self.view_is in
+    let fits : SFits w64 c.args.upto = search rules in
+    let is = subst (λ (z : ℤ). c.trim_end-end.result ≡ trim_end z c.args.self.now.newest c.args.self.now.dumps) (to_z-of_z w64 c.args.upto fits) (c.trim_end-end.ensures ∙ ap (λ (s : State). trim_end _ s.newest s.dumps) c.self.view_is) in
     λ caller. stepped_cut c.args.self.now c.cut.new.self caller c.args.upto c.trim_end-end.result _ _ is (search rules) (trim_below c.args.upto _ _ _ is) c.in-Ok.ensures.ok c.in-Ok.ensures.log
 
 pub returns-in-Err : goal.returns-in-Err
 returns-in-Err g c =
-    let is = c.trim_end-end.ensures ∙ ap (λ (s : State). trim_end c.args.upto s.newest s.dumps) c.self.view_is in
+    let fits : SFits w64 c.args.upto = search rules in
+    let is = subst (λ (z : ℤ). c.trim_end-end.result ≡ trim_end z c.args.self.now.newest c.args.self.now.dumps) (to_z-of_z w64 c.args.upto fits) (c.trim_end-end.ensures ∙ ap (λ (s : State). trim_end _ s.newest s.dumps) c.self.view_is) in
     λ caller. rw c.refusal.ensures (stepped_uncut_fault c.args.self.now c.cut.new.self caller c.args.upto c.trim_end-end.result c.in-Err.fault _ _ is (search rules) (trim_below c.args.upto _ _ _ is) c.in-Err.ensures.err c.in-Err.ensures.log)
