@@ -1,12 +1,15 @@
 -- A payload behind a gate that was shut first.
 use Rattle.std.proofs.Common.{◌≡◌, ◌≤◌, ◌⊎◌, inl, inr, ℕ, List, [], ◌∷◌, ◌++◌, Bool, true, refl, ◌∙◌, ap, subst, arith}
-use Rattle.std.specs.Prelude.{Option, None, Some, IfSome, Result, Ok, Err, OnOk, OnErr, is_err}
-use Rattle.engine.specs.Inside.{LogAfter, Meanwhile, Ran, Seen}
+use Rattle.std.specs.Prelude.{Option, None, Some, IfSome, IsErrOf, Result, Ok, Err, OnOk, OnErr, is_err}
+use Rattle.desk.specs.State.{Written}
+use Rattle.engine.specs.Inside.{IsSure, LogAfter, Logged, Meanwhile, Ran, Seen}
+use Rattle.engine.specs.Opening.{spelled}
 use Rattle.hms_outside.proofs.Moves.{started, went_both, went_weaker}
 use Rattle.hms_outside.specs.Causes.{Rose}
 use Rattle.hms_outside.specs.Disks.{Lies, Went}
 use Rattle.ms_journal.specs.Books.{LeavesOpen, OpensTo}
 use Rattle.ms_journal.specs.declared.fault.StoreFault.{StoreFault}
+use Rattle.ms_journal.specs.declared.fault.StoreFault.TheVariants as fault
 
 same_file : (head head2 : List ℕ) (ps qs : List (List ℕ)) (payload c : List ℕ) → head2 ≡ head → qs ≡ ps → OpensTo head2 qs (Some payload) c → OpensTo head ps (Some payload) c
 same_file head head2 ps qs payload c same is opens =
@@ -21,6 +24,9 @@ log_added payload (Err e) old mid new same added settled stay doubt = (stay ∙ 
     either : ((new.doubt ≡ None) ⊎ (new.doubt ≡ Some payload)) → (new.doubt ≡ None) ⊎ ((new.doubt ≡ old.doubt) ⊎ (new.doubt ≡ Some payload))
     either (inl none) = inl none
     either (inr own) = inr (inr own)
+
+abbrev refused_so : StoreFault → Result (Unit {0}) StoreFault
+refused_so f = Err f
 
 -- the gate is shut, and then the payload is added or not
 pub shut_then_added : (payload : List ℕ) (r : Result (Unit {0}) StoreFault) (old mid new : Seen)
@@ -68,3 +74,15 @@ rose_later a b c le rose = omega (arith, le, rose)
 -- a gate that isn't doubtful is left alone
 pub left_alone : (o : Option Lies) (past : List Lies) (head : List ℕ) (ps : List (List ℕ)) (doubt : Option (List ℕ)) → IfSome o (LeavesOpen head ps doubt) → Went past past o (LeavesOpen head ps doubt) (OpensTo head ps doubt)
 left_alone o past head ps doubt sure = started o past (LeavesOpen head ps doubt) (OpensTo head ps doubt) sure
+
+-- ---- an entry
+
+-- want of memory before the journal was touched
+pub unlogged : (o : Option Written) (v : Seen) → IsSure v → IfSome o (λ w. Logged w (refused_so fault.NoMemory) v v)
+unlogged None v sure = tt
+unlogged (Some w) v sure = record { payload = None; spells = refl; ran = rested v sure true; cause = λ is. absurd cc }
+
+-- a payload that spells the entry was added, or wasn't
+pub logged : (o : Option Written) (payload : List ℕ) (r : Result (Unit {0}) StoreFault) (v u : Seen) → spelled payload ≡ o → Ran (Some payload) (is_err r) v u → (IsErrOf r fault.DiskFault → Rose v.faults u.faults) → IfSome o (λ w. Logged w r v u)
+logged None payload r v u spells ran cause = tt
+logged (Some w) payload r v u spells ran cause = record { payload = Some payload; spells = spells; ran = ran; cause = cause }

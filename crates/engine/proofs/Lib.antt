@@ -2,7 +2,10 @@ pub mod Tests
 pub mod Spelling
 pub mod Commits
 pub mod Taking
+pub mod Steps
 pub mod Stepping
+pub mod Dumps
+pub mod Trims
 pub mod Payloads
 pub mod Standing
 pub mod Running

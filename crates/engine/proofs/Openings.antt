@@ -6,7 +6,7 @@ use Rattle.std.proofs.lemmas.List.{drop_at, take_at}
 use Rattle.std.proofs.lemmas.Nat.{from_be_bytes-to_be_bytes_8}
 use Rattle.desk.specs.State.{State, start}
 use Rattle.desk.specs.History.{point_of}
-use Rattle.engine.proofs.Payloads.{ok}
+use Rattle.engine.proofs.Payloads.{ok, opened_durable}
 use Rattle.engine.proofs.Running.{kept_now}
 use Rattle.engine.specs.Inside.{IsPending, IsSure, Runs, Seen, point_in, start_of}
 use Rattle.engine.specs.Keeping.{LeavesKept, LeavesState}
@@ -27,7 +27,7 @@ run_opened {J} seen t j o ts sure settled opens first none =
         is_state = refl;
         fault = refl;
         sure = sure;
-        opens = opens;
+        opens = opens ∙ ap (λ (x : State). ok x) (sym (opened_durable (seen j).head (seen j).payloads t opens));
         doubt = subst (λ (d : Option (List ℕ)). IsPending (seen j).head (seen j).payloads d []) (sym settled) tt;
       };
       along = refl;

@@ -3,11 +3,10 @@ use Rattle.std.proofs.Common.{◌≡◌, ◌≤◌, ℕ, List, [], ◌∷◌, �
 use Rattle.std.specs.Prelude.{Bool, true, false, Option, None, Some, IfSome}
 use Rattle.std.proofs.lemmas.List.{append-nil}
 use Rattle.cat_types.specs.declared.steps.Answer.{Answer}
-use Rattle.cat_types.specs.declared.steps.Answer.TheVariants.{NoMemory, Reply, StoreFault}
 use Rattle.cat_types.specs.declared.steps.Step.{Step}
 use Rattle.desk.proofs.Histories.{IsLegal-append, point_after-append}
 use Rattle.desk.specs.History.{Entry, IsLegal, NoneAbove, Point, Transition, next, point_after, point_of, took}
-use Rattle.desk.specs.State.{MayAnswer, State, is_refused}
+use Rattle.desk.specs.State.{MayBe, State, Untaken, by_fault, for_memory, is_refused, untaken}
 use Rattle.desk.specs.declared.entries.CallerStep.{CallerStep}
 use Rattle.engine.proofs.Standing.{turn_on, kept_here}
 use Rattle.engine.specs.Inside.{KeptAlong, LogAfter, Runs, Seen, StandsAt, Stepped, entries_of, entry_of, point_in, start_of, with_other}
@@ -27,10 +26,10 @@ later_of_two a b c le = omega (arith, le)
 rose_of_two : (a b c : ℕ) → a ≤ c → Rose a c → Rose (fault_number a b) (fault_number c b)
 rose_of_two a b c le rose = omega (arith, le, rose)
 
-may_of_two : (s : State) (a b c caller : ℕ) (step : Step) (given : Answer) → a ≤ c → MayAnswer s a caller step given c → MayAnswer s (fault_number a b) caller step given (fault_number c b)
-may_of_two s a b c caller step NoMemory le may = may
-may_of_two s a b c caller step StoreFault le may = (may.0, rose_of_two a b c le may.1)
-may_of_two s a b c caller step (Reply reply) le may = may
+may_of_two : (s : State) (a b c caller : ℕ) (step : Step) (given : Answer) (o : Option Untaken) → a ≤ c → MayBe s a caller step given o c → MayBe s (fault_number a b) caller step given o (fault_number c b)
+may_of_two s a b c caller step given None le may = may
+may_of_two s a b c caller step given (Some by_fault) le may = (may.0, rose_of_two a b c le may.1)
+may_of_two s a b c caller step given (Some for_memory) le may = may
 
 log_of_two : (other : ℕ) (v u : Seen) (o : Option (List ℕ)) (refused : Bool) → LogAfter o refused v u → LogAfter o refused (with_other other v) (with_other other u)
 log_of_two other v u None refused h = h
@@ -40,7 +39,7 @@ log_of_two other v u (Some payload) false h = h
 stepped_of_two : (other : ℕ) (s : State) (caller : ℕ) (step : Step) (given : Answer) (t : State) (v u : Seen) → Stepped s caller step given t v u → Stepped s caller step given t (with_other other v) (with_other other u)
 stepped_of_two other s caller step given t v u h = record {
   state = h.state;
-  may = may_of_two s v.faults other u.faults caller step given h.ran.later h.may;
+  may = may_of_two s v.faults other u.faults caller step given (untaken given) h.ran.later h.may;
   payload = h.payload;
   spells = h.spells;
   taken = h.taken;

@@ -1,4 +1,4 @@
--- What a step did.
+-- What a call did.
 use Rattle.std.proofs.Common.{◌≡◌, ℕ, ◌+◌, ◌==◌, ◌||◌, Bool, true, false, List, [], ◌∷◌, Option, None, Some, Result, Ok, Err, refl, sym, ◌∙◌, ap, subst, eq-eqb}
 use Rattle.std.specs.Prelude.{cond, is_some}
 use Rattle.cat_types.specs.declared.calls.Call.{Call}
@@ -17,14 +17,13 @@ use Rattle.rulings.specs.declared.decided.Decided.{Decided}
 use Rattle.rulings.specs.declared.decided.Decided.TheVariants as decided
 use Rattle.catalogue.specs.declared.poll.Poll.{Poll}
 use Rattle.desk.specs.Polls.{poll_reply}
-use Rattle.desk.specs.State.{State, Written, bars_of, decision_of, due, kept, next_event, reply_by, reply_in, with_written, writing, written_by, written_change}
+use Rattle.desk.specs.State.{State, Written, bars_of, decision_of, due, kept, next_event, reply_by, reply_in, with_dumps, with_written, writing, written_by, written_change}
 use Rattle.desk.proofs.Polled.{write_nothing}
-use Rattle.engine.proofs.Commits.{rested}
+use Rattle.engine.proofs.Steps.{failed_by, nothing, same_dumps, stepped_failed, stepped_quiet, stepped_written, unit, well}
 use Rattle.engine.proofs.Tests.{all_of, first_of, last_of}
-use Rattle.engine.specs.Inside.{IsSure, IsTaken, Logged, Seen, Spells, Stepped, refused_by}
+use Rattle.engine.specs.Inside.{IsSure, Logged, Seen, Stepped, refused_by}
 use Rattle.engine.specs.Opening.{takes}
 use Rattle.ms_journal.specs.declared.fault.StoreFault.{StoreFault}
-use Rattle.ms_journal.specs.declared.fault.StoreFault.TheVariants as fault
 
 -- ---- what a decision writes and replies
 
@@ -47,11 +46,6 @@ event_taken : (s : State) (moment : ℕ) (change : Change) → takes_call s.cata
 event_taken s moment change is =
     all_of (s.newest + 1 == s.newest + 1) _ (eq-eqb (s.newest + 1) (s.newest + 1) refl) (first_of (takes_change s.catalogue (s.newest + 1) change) _ is)
 
-taken_of : (s : State) (o : Option (List ℕ)) (written : Option Written) (w : Written) → written ≡ Some w → takes s w ≡ true → IsTaken s o written
-taken_of s None written w is takes_it = tt
-taken_of s (Some payload) None w is takes_it = tt
-taken_of s (Some payload) (Some other) w is takes_it = let same : other ≡ w = cc in subst (λ (x : Written). takes s x ≡ true) (sym same) takes_it
-
 a_change : (d : Decision) (s : State) (moment : ℕ) (change : Change) (reply : Reply) → decided.Change change reply ≡ told d → has_operation change ≡ true → (written_by d s moment ≡ Some (kept (next_event s moment change))) × (reply ≡ reply_by d)
 a_change (refused refusal) s moment change reply is some = absurd cc
 a_change (accepted None result) s moment change reply is some = absurd cc
@@ -69,14 +63,7 @@ due_reply s caller call moment reply none is =
 pub stepped_reply : (s : State) (caller : ℕ) (call : Call) (moment : ℕ) (reply : Reply) (v : Seen) → poll_of call ≡ None → IsSure v → decided.Reply reply ≡ told (decision_of s call moment) → Stepped s caller (Client call moment) (answer.Reply reply) s v v
 stepped_reply s caller call moment reply v none sure is =
     let w = no_change (decision_of s call moment) s moment reply is in
-    record {
-      state = ap (λ (o : Option Written). with_written o s) (sym w.0);
-      may = due_reply s caller call moment reply none w.1;
-      payload = None;
-      spells = subst (λ (o : Option Written). Spells false None o) (sym w.0) tt;
-      taken = tt;
-      ran = rested v sure false;
-    }
+    stepped_quiet s s caller (Client call moment) (answer.Reply reply) v refl (due_reply s caller call moment reply none w.1) w.0 (ap (λ (o : Option Written). with_dumps s.dumps (with_written o s)) (sym w.0)) sure
 
 -- a decision over what is equal
 pub decides_so : (s : State) (cat : Catalogue) (bars : Bars) (newest : ℕ) (call : Call) (moment : ℕ) (d : Decided) → cat ≡ s.catalogue → bars ≡ bars_of s → newest ≡ s.newest → Decides (decision cat bars call moment (newest + 1)) d
@@ -86,80 +73,27 @@ decides_so s cat bars newest call moment d same barred numbered is =
     (subst (λ (b : Bars). Decides (decision s.catalogue b call moment (newest + 1)) d) barred
     (subst (λ (c : Catalogue). Decides (decision c bars call moment (newest + 1)) d) same is))
 
-nothing : (o : Option Written) → is_some o ≡ false → o ≡ None
-nothing None is = refl
-nothing (Some w) is = absurd cc
-
 -- a poll, which writes nothing
 pub stepped_poll : (s : State) (caller : ℕ) (call : Call) (moment : ℕ) (poll : Poll) (reply : Reply) (v : Seen) → poll_of call ≡ Some poll → IsSure v → reply ≡ poll_reply s.events s.newest poll → Stepped s caller (Client call moment) (answer.Reply reply) s v v
 stepped_poll s caller call moment poll reply v is sure told =
     let none : writing s (Client call moment) ≡ None = nothing (writing s (Client call moment)) (write_nothing s call moment (ap (λ (o : Option Poll). is_some o) is)) in
-    record {
-      state = ap (λ (o : Option Written). with_written o s) (sym none);
-      may = ap (λ (r : Reply). answer.Reply r) (told ∙ ap (λ (o : Option Poll). reply_in s o (decision_of s call moment)) (sym is));
-      payload = None;
-      spells = subst (λ (o : Option Written). Spells false None o) (sym none) tt;
-      taken = tt;
-      ran = rested v sure false;
-    }
-
-none_spelled : (o : Option Written) → Spells true None o
-none_spelled None = tt
-none_spelled (Some w) = refl
-
--- want of memory before anything was written
-pub stepped_wanting : (s : State) (caller : ℕ) (call : Call) (moment : ℕ) (v : Seen) → IsSure v → Stepped s caller (Client call moment) answer.NoMemory s v v
-stepped_wanting s caller call moment v sure = record {
-  state = refl;
-  may = refl;
-  payload = None;
-  spells = none_spelled (written_by (decision_of s call moment) s moment);
-  taken = tt;
-  ran = rested v sure true;
-}
-
-abbrev well : Result (Unit {0}) StoreFault
-well = Ok tt
-
-abbrev failed_by : StoreFault → Result (Unit {0}) StoreFault
-failed_by f = Err f
+    stepped_quiet s s caller (Client call moment) (answer.Reply reply) v refl
+    (ap (λ (r : Reply). answer.Reply r) (told ∙ ap (λ (o : Option Poll). reply_in s o (decision_of s call moment)) (sym is)))
+    none (ap (λ (o : Option Written). with_dumps s.dumps (with_written o s)) (sym none)) sure
 
 -- a change whose event was written
 pub stepped_change : (s t : State) (caller : ℕ) (call : Call) (moment : ℕ) (change : Change) (reply : Reply) (v u : Seen) → poll_of call ≡ None → decided.Change change reply ≡ told (decision_of s call moment) → takes_call s.catalogue (s.newest + 1) change ≡ true
-    → t ≡ with_written (Some (kept (next_event s moment change))) s → Logged (kept (next_event s moment change)) well v u
+    → t ≡ with_written (Some (kept (next_event s moment change))) s → Logged (kept (next_event s moment change)) (well unit) v u
     → Stepped s caller (Client call moment) (answer.Reply reply) t v u
 stepped_change s t caller call moment change reply v u none is takes_it done log =
     let w = a_change (decision_of s call moment) s moment change reply is (operates s.catalogue (s.newest + 1) change takes_it) in
-    record {
-      state = done ∙ ap (λ (o : Option Written). with_written o s) (sym w.0);
-      may = due_reply s caller call moment reply none w.1;
-      payload = log.payload;
-      spells = subst (λ (o : Option Written). Spells false log.payload o) (sym w.0) log.spells;
-      taken = taken_of s log.payload (written_by (decision_of s call moment) s moment) (kept (next_event s moment change)) w.0 (event_taken s moment change takes_it);
-      ran = log.ran;
-    }
+    stepped_written s t caller (Client call moment) (answer.Reply reply) (kept (next_event s moment change)) unit v u refl (due_reply s caller call moment reply none w.1) w.0 (event_taken s moment change takes_it)
+    (done ∙ ap (λ (o : Option Written). with_written o s) (sym w.0) ∙ sym (same_dumps s (writing s (Client call moment)))) log
 
 -- one whose event wasn't written
 pub stepped_fault : (s t : State) (caller : ℕ) (call : Call) (moment : ℕ) (change : Change) (reply : Reply) (f : StoreFault) (v u : Seen) → decided.Change change reply ≡ told (decision_of s call moment) → takes_call s.catalogue (s.newest + 1) change ≡ true
-    → t ≡ s → Logged (kept (next_event s moment change)) (failed_by f) v u
+    → t ≡ s → Logged (kept (next_event s moment change)) (failed_by (Unit {0}) f) v u
     → Stepped s caller (Client call moment) (refused_by f) t v u
-stepped_fault s t caller call moment change reply fault.DiskFault v u is takes_it stays log =
+stepped_fault s t caller call moment change reply f v u is takes_it stays log =
     let w = a_change (decision_of s call moment) s moment change reply is (operates s.catalogue (s.newest + 1) change takes_it) in
-    record {
-      state = stays;
-      may = (ap (λ (o : Option Written). is_some o) w.0, log.cause refl);
-      payload = log.payload;
-      spells = subst (λ (o : Option Written). Spells true log.payload o) (sym w.0) log.spells;
-      taken = taken_of s log.payload (written_by (decision_of s call moment) s moment) (kept (next_event s moment change)) w.0 (event_taken s moment change takes_it);
-      ran = log.ran;
-    }
-stepped_fault s t caller call moment change reply fault.NoMemory v u is takes_it stays log =
-    let w = a_change (decision_of s call moment) s moment change reply is (operates s.catalogue (s.newest + 1) change takes_it) in
-    record {
-      state = stays;
-      may = refl;
-      payload = log.payload;
-      spells = subst (λ (o : Option Written). Spells true log.payload o) (sym w.0) log.spells;
-      taken = taken_of s log.payload (written_by (decision_of s call moment) s moment) (kept (next_event s moment change)) w.0 (event_taken s moment change takes_it);
-      ran = log.ran;
-    }
+    stepped_failed (Unit {0}) s t caller (Client call moment) (kept (next_event s moment change)) f v u refl w.0 (event_taken s moment change takes_it) stays log

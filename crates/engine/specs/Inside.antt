@@ -4,10 +4,12 @@ use Rattle.cat_types.specs.declared.steps.Answer.{Answer}
 use Rattle.cat_types.specs.declared.steps.Answer.TheVariants as answer
 use Rattle.cat_types.specs.declared.steps.Step.{Step}
 use Rattle.desk.specs.History.{Entry, IsLegal, NoneAbove, Pending, Point, Start, found, next, point_after, point_of, took}
-use Rattle.desk.specs.State.{MayAnswer, State, Written, durable, is_refused, start, state_after_answer, writing}
+use Rattle.desk.specs.State.{Beginning, MayAnswer, State, Written, durable, is_refused, opens, start, state_after_answer, unbegun, writing}
 use Rattle.engine.specs.Keeping.{KeptMeanwhile, LeavesKept}
 use Rattle.engine.specs.Opening.{opened, spelled, takes}
 use Rattle.engine.specs.Stores.{Stored, fault_number}
+use Rattle.engine.specs.declared.dumping.Prepared.{Prepared}
+use Rattle.engine.specs.declared.dumping.Prepared.TheVariants as prepared
 use Rattle.engine.specs.declared.turned.Turned.{Turned}
 use Rattle.hms_outside.specs.Causes.{Rose}
 use Rattle.hms_outside.specs.Disks.{Lies, Went}
@@ -82,6 +84,15 @@ pub record Stepped (old : State) (caller : ℕ) (step : Step) (given : Answer) (
   pub spells : Spells (is_refused given) payload (writing old step)
   pub taken : IsTaken old payload (writing old step)
   pub ran : Ran payload (is_refused given) v u
+
+-- a step that writes nothing was answered so and did this to the state in memory, whatever the journal is
+abbrev pub Unwritten : State → ℕ → Step → Answer → State → Type 0
+Unwritten old caller step given new = (v : Seen) → IsSure v → Stepped old caller step given new v v
+
+-- how a dump that was prepared begins
+abbrev pub begins : Prepared → Beginning
+begins (prepared.Refused refusal) = unbegun refusal
+begins (prepared.Ready dump item) = opens dump item
 
 -- the answer to a step whose entry isn't written
 abbrev pub refused_by : StoreFault → Answer

@@ -1,23 +1,23 @@
 -- What the bytes of a store's disk open to.
-use Rattle.std.specs.Prelude.{◌≡◌, ◌⊎◌, ℕ, ◌+◌, ◌==◌, ⊤, Bool, ◌&&◌, List, [], ◌∷◌, take, drop, Option, None, Some, Result, Ok, Err, if◌then◌else◌}
+use Rattle.std.specs.Prelude.{◌≡◌, ◌⊎◌, ℕ, ◌+◌, ◌==◌, nat_le, nat_lt, ⊤, Bool, ◌&&◌, List, [], ◌∷◌, take, drop, Option, None, Some, Result, Ok, Err, if◌then◌else◌}
 use Rattle.cat_objects.specs.Changes.{takes_change}
 use Rattle.change_codec.specs.Records.{an_entry}
 use Rattle.change_codec.specs.Whole.{whole}
 use Rattle.change_codec.specs.declared.entry.Entry.{Entry}
 use Rattle.change_codec.specs.declared.entry.Entry.TheVariants as entry
 use Rattle.change_codec.specs.declared.version.Version.TheVariants.{One}
-use Rattle.desk.specs.State.{State, Written, kept, start, with_written}
+use Rattle.desk.specs.State.{State, Written, drew, kept, start, trimmed, with_written}
 use Rattle.ms_journal.specs.Files.{IsBroken, IsFile, base_in, placed}
 use Rattle.ms_journal.specs.declared.fault.OpenFault.{OpenFault}
 use Rattle.ms_journal.specs.declared.fault.OpenFault.TheVariants as opening
 
 -- ---- one payload
 
--- what an entry says was written; no step writes any other entry so far
+-- what an entry says was written; no step writes one of a load so far
 abbrev pub written_in : Entry → Option Written
 written_in (entry.Event event) = Some (kept event)
-written_in (entry.DumpBegun dump) = None
-written_in (entry.Trimmed upto) = None
+written_in (entry.DumpBegun number) = Some (drew number)
+written_in (entry.Trimmed first) = Some (trimmed first)
 written_in (entry.LoadStep target row clear ops) = None
 
 -- what was written by what was read; nothing where no entry was
@@ -29,9 +29,11 @@ said (Err place) = None
 abbrev pub spelled : List ℕ → Option Written
 spelled payload = said (whole (an_entry One) payload)
 
--- whether a state takes what was written: the event has the next number, and the catalogue can take its change
+-- whether a state takes what was written: the event has the next number, and the catalogue can take its change; or the number of a dump is the next one; or the first kept number rises, and not past the number after the newest
 abbrev pub takes : State → Written → Bool
 takes state (kept event) = (event.id == state.newest + 1) && takes_change state.catalogue event.id event.change
+takes state (drew number) = number == state.last_dump + 1
+takes state (trimmed first) = nat_lt state.first first && nat_le first (state.newest + 1)
 
 -- what a state becomes by what was written, where it takes that; else the place of the entry's gate
 abbrev pub taken : ℕ → Option Written → State → Result State ℕ

@@ -1,9 +1,9 @@
-//! How an event is written to the journal.
+//! How entries are written to the journal.
 
 ghost use Rattle.std.specs.Prelude.{◌≡◌, ◌≤◌, Some, IfOk, IfSome, IsErrOf, OnErr, OnOk, None, is_err};
 ghost use Rattle.desk.specs.State.{kept};
-ghost use Rattle.engine.specs.Inside.{Ran, seen_by};
-ghost use Rattle.engine.specs.Opening.{spelled};
+ghost use Rattle.engine.specs.Inside.{IsSure, Logged, Ran, seen_by};
+ghost use Rattle.engine.specs.Opening.{spelled, written_in};
 ghost use Rattle.hms_outside.specs.Causes.{Rose};
 ghost use Rattle.hms_outside.specs.Disks.{Went};
 ghost use Rattle.ms_journal.specs.Books.{LeavesOpen, OpensTo};
@@ -29,15 +29,23 @@ fn event_in(entry: Entry) -> Event
     }
 }
 
+// The payload of an entry.
+fn spell(alloc: Global, entry: &Entry) -> Result<Bytes, NoMemory>
+    ensures { IfOk result (λ payload. spelled payload ≡ written_in entry.now) }
+{
+    let mut payload = ListOf::new(alloc);
+    put_entry(entry, &mut payload)?;
+    each_is_read_again();
+    Ok(payload)
+}
+
 /// The payload of an event's entry, and the event again.
-pub fn spell(alloc: Global, event: Event) -> Result<(Bytes, Event), NoMemory>
+pub fn spell_event(alloc: Global, event: Event) -> Result<(Bytes, Event), NoMemory>
     ensures payload { IfOk result (λ r. spelled r.0 ≡ Some (kept event)) }
     ensures event { IfOk result (λ r. r.1 ≡ event) }
 {
     let entry = Entry::Event(event);
-    let mut payload = ListOf::new(alloc);
-    put_entry(&entry, &mut payload)?;
-    each_is_read_again();
+    let payload = spell(alloc, &entry)?;
     Ok((payload, event_in(entry)))
 }
 
@@ -65,4 +73,19 @@ pub fn commit<D: Disk>(journal: &mut Journal<D>, payload: &Bytes) -> Result<(), 
 {
     shut_gate(journal)?;
     journal.append(payload)
+}
+
+/// Writes an entry. Its payload is spelled before the journal is touched.
+pub fn log_entry<D: Disk>(
+    alloc: Global,
+    journal: &mut Journal<D>,
+    entry: &Entry,
+) -> Result<(), StoreFault>
+    requires { IsSure (seen_by D.lies D.past D.faults journal.old) }
+    ensures { IfSome (written_in entry.now) (λ written. Logged written result (seen_by D.lies D.past D.faults journal.old) (seen_by D.lies D.past D.faults journal.new)) }
+{
+    match spell(alloc, entry) {
+        Ok(payload) => commit(journal, &payload),
+        Err(NoMemory) => Err(StoreFault::NoMemory),
+    }
 }

@@ -3,10 +3,12 @@
 #![tactic(auto)]
 
 mod committing;
+mod dumping;
 mod engine;
 mod laws;
 mod replaying;
 mod store;
+mod trimming;
 mod turned;
 
 pub use engine::Engine;

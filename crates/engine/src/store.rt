@@ -11,11 +11,12 @@ ghost use Rattle.engine.specs.Inside.{IsSure, Logged, Stepped, refused_by, seen_
 ghost use Rattle.engine.specs.Opening.{RefusesReplay, taken, takes, written_in};
 ghost use Rattle.notify_log.specs.Logs.{next_number};
 
-use crate::committing::{commit, spell};
+use crate::committing::{commit, spell_event};
 use cat_types::{Answer, Call, Change, Event, ListOf, NoMemory, Reply, Step};
 use catalogue::{Bars, Cat, Decided, Poll, decide, poll_of};
 use change_codec::Entry;
 use desk::reply_to_poll;
+use dump_steps::{Asked, OpenDumps};
 use hms_outside::Disk;
 use ms_journal::{Journal, OpenFault, StoreFault};
 use notify_log::EventLog;
@@ -25,12 +26,13 @@ use std::marker::Model;
 /// A store's state in memory.
 #[derive(Drop)]
 pub struct Store {
-    alloc: Global,
-    id: [u8; 16],
-    cat: Cat,
-    log: EventLog,
-    newest: u64,
-    last_dump: u64,
+    pub(crate) alloc: Global,
+    pub(crate) id: [u8; 16],
+    pub(crate) cat: Cat,
+    pub(crate) log: EventLog,
+    pub(crate) newest: u64,
+    pub(crate) last_dump: u64,
+    pub(crate) dumps: OpenDumps,
 }
 
 impl Model for Store {
@@ -40,7 +42,7 @@ impl Model for Store {
 
     ghost Value = { State };
 
-    ghost view = { λ m. record { id = m.id; catalogue = m.cat; events = m.log.events; first = m.log.first; newest = m.newest; last_dump = m.last_dump } };
+    ghost view = { λ m. record { id = m.id; catalogue = m.cat; events = m.log.events; first = m.log.first; newest = m.newest; last_dump = m.last_dump; dumps = m.dumps.dumps } };
 
     ghost invariant = { λ m. (m.newest ≤ 9223372036854775807) × (next_number m.log ≡ m.newest + 1) × (1 ≤ m.log.first) };
 }
@@ -58,6 +60,7 @@ impl Store {
             log: EventLog::new(alloc, base + 1),
             newest: base,
             last_dump: 0,
+            dumps: OpenDumps::new(alloc),
         })
     }
 
@@ -73,6 +76,32 @@ impl Store {
     {
         match step {
             Step::Client { call, moment } => self.take_call(journal, caller, call, *moment),
+            Step::DumpBegin {
+                db,
+                from,
+                to,
+                limit,
+            } => self.begin_dump(
+                journal,
+                caller,
+                db,
+                Asked {
+                    from: *from,
+                    to: *to,
+                    limit: *limit,
+                },
+            ),
+            Step::DumpTable { dump, after } => self.dump_table(caller, *dump, after.as_ref()),
+            Step::DumpParts {
+                dump,
+                table,
+                born,
+                after,
+            } => self.dump_parts(caller, *dump, table, *born, after.as_ref()),
+            Step::DumpSeal { dump } => self.seal_dump(caller, *dump),
+            Step::DumpEvents { dump, after } => self.dump_events(caller, *dump, *after),
+            Step::DumpEnd { dump } => self.end_dump(caller, *dump),
+            Step::Trim { upto } => self.trim(journal, *upto),
         }
     }
 
@@ -109,9 +138,12 @@ impl Store {
         ensures decided { Decides (decision_of self.now call.now moment) result }
         ensures taken { IfChange result (λ change. takes_call self.now.catalogue (self.now.newest + 1) change ≡ true) }
     {
+        let Ok(dumping) = self.dumps.databases(self.alloc) else {
+            return Decided::NoMemory;
+        };
         let bars = Bars {
             replicas: ListOf::new(self.alloc),
-            dumping: ListOf::new(self.alloc),
+            dumping,
             loading: ListOf::new(self.alloc),
         };
         decide(self.alloc, &self.cat, &bars, call, moment, self.newest + 1)
@@ -154,7 +186,7 @@ impl Store {
         ensures log { Logged (kept (next_event self.old moment change)) result (seen_by D.lies D.past D.faults journal.old) (seen_by D.lies D.past D.faults journal.new) }
     {
         let id = self.newest + 1;
-        let (payload, event) = spell(self.alloc, Event { id, moment, change })?;
+        let (payload, event) = spell_event(self.alloc, Event { id, moment, change })?;
         self.log.reserve()?;
         let placed = self.cat.place(&event.change)?;
         match commit(journal, &payload) {
@@ -171,14 +203,14 @@ impl Store {
         }
     }
 
-    /// Takes an entry of a journal, whose gate stands at this place. So far there are none but events.
+    /// Takes an entry of a journal, whose gate stands at this place. So far there are none of loads.
     pub fn take(&mut self, entry: Entry, at: u64) -> Result<(), OpenFault>
         ensures { MatchResult result (λ _. taken at (written_in entry) self.old ≡ Ok self.new) (λ fault. RefusesReplay fault (taken at (written_in entry) self.old)) }
     {
         match entry {
             Entry::Event(event) => self.take_event(event, at),
-            Entry::DumpBegun(_) => Err(OpenFault::Broken(at)),
-            Entry::Trimmed(_) => Err(OpenFault::Broken(at)),
+            Entry::DumpBegun(number) => self.take_number(number, at),
+            Entry::Trimmed(first) => self.take_trim(first, at),
             Entry::LoadStep { .. } => Err(OpenFault::Broken(at)),
         }
     }
@@ -226,7 +258,7 @@ fn keep(log: &mut EventLog, event: Event)
 }
 
 // The answer to a step whose entry isn't written.
-fn refusal(fault: StoreFault) -> Answer
+pub(crate) fn refusal(fault: StoreFault) -> Answer
     ensures { result ≡ refused_by fault }
 {
     match fault {
