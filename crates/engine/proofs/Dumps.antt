@@ -1,6 +1,6 @@
 -- What the steps of a dump did.
-use Rattle.std.proofs.Common.{◌≡◌, ℕ, ◌+◌, ◌==◌, ◌^◌, ◌-◌, nat_lt, ◌<◌, Bool, true, false, ◌&&◌, List, [], ◌∷◌, ◌++◌, Option, None, Some, Result, Ok, Err, refl, sym, ◌∙◌, ap, subst, eq-eqb, arith}
-use Rattle.std.specs.Prelude.{cond, ℤ, IfOk, MatchResult, is_some}
+use Rattle.std.proofs.Common.{◌≡◌, ℕ, ◌+◌, Bool, true, false, ◌&&◌, List, Option, None, Some, Result, Ok, Err, refl, sym, ◌∙◌, ap, subst, eq-eqb}
+use Rattle.std.specs.Prelude.{cond, IfOk, MatchResult, is_some}
 use Rattle.cat_objects.specs.Catalogue.{Catalogue, database}
 use Rattle.cat_objects.specs.Changes.{is_born}
 use Rattle.cat_objects.specs.declared.held.HeldDb.{HeldDb}
@@ -12,10 +12,9 @@ use Rattle.cat_types.specs.declared.steps.DumpRefusal.{DumpRefusal}
 use Rattle.cat_types.specs.declared.steps.DumpRefusal.TheVariants.{BadRange, DatabaseGone, MissingEvents, UsedUp}
 use Rattle.cat_types.specs.declared.steps.Step.{Step}
 use Rattle.cat_types.specs.declared.steps.Step.TheVariants.{DumpBegin, DumpEnd, DumpEvents, DumpParts, DumpSeal, DumpTable}
-use Rattle.cat_values.specs.Maps.{first_after}
 use Rattle.cat_values.specs.Names.{lower}
-use Rattle.desk.specs.State.{Beginning, State, Written, asked_for, begin_answer, beginning, beginning_by, drawn_by, drew, due, due_answer, dumps_begun, end_answer, may_want, opens, refused_dump, unbegun, untaken, with_dumps, with_written, writing}
-use Rattle.dump_steps.specs.Open.{open_dump, takes_events, takes_objects, with_sealed, without_dump}
+use Rattle.desk.specs.State.{Beginning, State, Written, begin_answer, beginning, beginning_by, drawn_by, drew, due, due_answer, dumps_begun, end_answer, may_want, opens, refused_dump, unbegun, untaken, with_dumps, with_written, writing}
+use Rattle.dump_steps.specs.Open.{open_dump, takes_events, takes_objects, with_dump, with_sealed, without_dump}
 use Rattle.dump_steps.specs.Pieces.{answered_in, begun, first_item, is_taken_in, kind_of, next_events, next_parts, next_table, told_begun, told_table}
 use Rattle.dump_steps.specs.Ranges.{begin_refusal, is_bad_range, is_missing, is_too_early, is_used_up}
 use Rattle.dump_steps.specs.declared.ranges.Asked.{Asked}
@@ -23,7 +22,6 @@ use Rattle.dump_steps.specs.declared.open_dumps.DumpKind.{DumpKind}
 use Rattle.dump_steps.specs.declared.open_dumps.OpenDump.{OpenDump}
 use Rattle.engine.proofs.Steps.{failed_by, stepped_failed, stepped_quiet, stepped_wanting, stepped_written, well}
 use Rattle.engine.specs.Inside.{IsSure, Logged, Seen, Stepped, Unwritten, refused_by}
-use Rattle.engine.specs.Opening.{takes}
 use Rattle.ms_journal.specs.declared.fault.StoreFault.{StoreFault}
 
 -- ---- how a beginning ends

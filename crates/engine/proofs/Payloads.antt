@@ -73,11 +73,11 @@ taken_dumps at (Some w) s t is = by_test (takes s w) is
 
 replayed_dumps : (xs : List (ℕ × List ℕ)) (s t : State) → replayed xs s ≡ ok t → t.dumps ≡ s.dumps
 replayed_dumps [] s t is = let same : s ≡ t = cc in ap (λ (x : State). x.dumps) (sym same)
-replayed_dumps (x ∷ xs) s t is = first (taken x.0 (spelled x.1) s) refl is
+replayed_dumps (x ∷ xs) s t is = first (taken x.0 (spelled x.1) s) refl is (λ u. replayed_dumps xs u t)
   where
-    first : (r : Result State ℕ) → taken x.0 (spelled x.1) s ≡ r → and_then r (λ u. replayed xs u) ≡ ok t → t.dumps ≡ s.dumps
-    first (Ok u) took rest = replayed_dumps xs u t rest ∙ taken_dumps x.0 (spelled x.1) s u took
-    first (Err at) took rest = absurd cc
+    first : (r : Result State ℕ) → taken x.0 (spelled x.1) s ≡ r → and_then r (λ u. replayed xs u) ≡ ok t → ((u : State) → replayed xs u ≡ ok t → t.dumps ≡ u.dumps) → t.dumps ≡ s.dumps
+    first (Ok u) took rest later = later u rest ∙ taken_dumps x.0 (spelled x.1) s u took
+    first (Err at) took rest later = absurd cc
 
 -- what is opened is all on the disks
 pub opened_durable : (head : List ℕ) (ps : List (List ℕ)) (s : State) → opened head ps ≡ Ok s → durable s ≡ s

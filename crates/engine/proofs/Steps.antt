@@ -1,10 +1,10 @@
 -- What any step did.
 use Rattle.std.proofs.Common.{◌≡◌, ℕ, Bool, true, false, List, Option, None, Some, Result, Ok, Err, refl, sym, ◌∙◌, ap, subst}
-use Rattle.std.specs.Prelude.{cond, is_some, is_err}
+use Rattle.std.specs.Prelude.{cond, is_some}
 use Rattle.cat_types.specs.declared.steps.Answer.{Answer}
 use Rattle.cat_types.specs.declared.steps.Answer.TheVariants as answer
 use Rattle.cat_types.specs.declared.steps.Step.{Step}
-use Rattle.desk.specs.State.{MayBe, State, Untaken, Written, drew, due, due_answer, is_refused, kept, may_want, trimmed, untaken, with_dumps, with_written, writes, writing}
+use Rattle.desk.specs.State.{MayBe, State, Untaken, Written, drew, due, due_answer, is_refused, kept, may_want, trimmed, untaken, with_dumps, with_written, writing}
 use Rattle.engine.proofs.Commits.{rested}
 use Rattle.engine.specs.Inside.{IsSure, IsTaken, Logged, Ran, Seen, Spells, Stepped, refused_by}
 use Rattle.engine.specs.Opening.{takes}

@@ -1,10 +1,9 @@
 -- What a trim did.
-use Rattle.std.proofs.Common.{◌≡◌, ℕ, ◌+◌, ◌<◌, ◌≤◌, ◌==◌, nat_le, nat_lt, Bool, true, false, Option, None, Some, refl, sym, ◌∙◌, ap, subst, eq-eqb, ne_eqb, lt-ltb, le-leb, arith}
-use Rattle.std.specs.Prelude.{cond, ℤ, max}
-use Rattle.cat_types.specs.declared.steps.Answer.{Answer}
+use Rattle.std.proofs.Common.{◌≡◌, ℕ, ◌+◌, ◌<◌, ◌≤◌, nat_le, nat_lt, Bool, true, Option, None, Some, refl, sym, ◌∙◌, ap, eq-eqb, ne_eqb, lt-ltb, le-leb, arith}
+use Rattle.std.specs.Prelude.{cond, ℤ}
 use Rattle.cat_types.specs.declared.steps.Answer.TheVariants as answer
 use Rattle.cat_types.specs.declared.steps.Step.TheVariants.{Trim}
-use Rattle.desk.specs.State.{State, Written, due, first_after_trim, trimmed, with_dumps, with_written, writing, written_first}
+use Rattle.desk.specs.State.{State, Written, first_after_trim, trimmed, with_dumps, with_written, writing, written_first}
 use Rattle.dump_steps.specs.Open.{first_kept, trim_end}
 use Rattle.engine.proofs.Steps.{failed_by, same_dumps, stepped_failed, stepped_quiet, stepped_written, unit, well}
 use Rattle.engine.proofs.Tests.{all_of}

@@ -1,4 +1,7 @@
-use Rattle.engine.proofs.Stepping.{stepped_change, stepped_fault, stepped_reply, stepped_wanting}
+use Rattle.std.proofs.Common.{refl}
+use Rattle.cat_types.specs.declared.steps.Step.TheVariants.{Client}
+use Rattle.engine.proofs.Steps.{stepped_wanting}
+use Rattle.engine.proofs.Stepping.{stepped_change, stepped_fault, stepped_reply}
 use Rattle.engine.proofs.store.Store.decide_call.Goals as goal
 
 pub returns-in-Reply : goal.returns-in-Reply
@@ -13,4 +16,4 @@ returns-in-Err g c =
     rw c.refusal.ensures (stepped_fault c.args.self.now c.accept.new.self c.args._caller c.args.call.now c.args.moment c.in-Change.change c.in-Change.reply c.in-Err.fault _ _ c.in-Change.ensures.decided c.in-Change.ensures.taken c.in-Err.ensures.err c.in-Err.ensures.log)
 
 pub returns-in-NoMemory : goal.returns-in-NoMemory
-returns-in-NoMemory g c = stepped_wanting c.args.self.now c.args._caller c.args.call.now c.args.moment _ c.requires.sure
+returns-in-NoMemory g c = stepped_wanting c.args.self.now c.args._caller (Client c.args.call.now c.args.moment) _ refl c.requires.sure
