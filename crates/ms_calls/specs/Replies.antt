@@ -144,6 +144,7 @@ reply_kind (reply.Parts parts) = codes.reply_kind
 reply_kind (reply.Stats stats) = codes.reply_kind
 reply_kind (reply.ColumnStats db table part stats) = codes.reply_kind
 reply_kind (reply.Events events) = codes.reply_kind
+reply_kind (reply.Dumped dir last) = codes.reply_kind
 
 -- a reply repeats the message's name and sequence id
 abbrev pub reply_head : Head → Reply → Head

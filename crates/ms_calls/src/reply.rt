@@ -89,7 +89,8 @@ fn reply_kind(reply: &Reply) -> u8
         Reply::Nothing | Reply::Flag(_) | Reply::Number(_) | Reply::Big(_) => message_kind::REPLY,
         Reply::Names(_) | Reply::Spec(_) | Reply::Fields(_) => message_kind::REPLY,
         Reply::Db(_, _) | Reply::Tables(_) | Reply::Parts(_) => message_kind::REPLY,
-        Reply::Stats(_) | Reply::ColumnStats { .. } | Reply::Events(_) => message_kind::REPLY,
+        Reply::Stats(_) | Reply::ColumnStats { .. } => message_kind::REPLY,
+        Reply::Events(_) | Reply::Dumped(_, _) => message_kind::REPLY,
     }
 }
 

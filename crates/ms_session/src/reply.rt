@@ -27,7 +27,9 @@ pub fn gather_reply(
     ensures { OnOk result (MatchResult due (λ reply. (writer.new ≡ reply_bytes head.now reply) ⊎ (writer.new ≡ reply_bytes head.now out_of_memory)) (λ _. writer.new ≡ reply_bytes head.now out_of_memory)) }
 {
     if let Ok(reply) = due {
-        match put_reply_of(alloc, writer, head, method, &reply) {
+        let put = put_reply_of(alloc, writer, head, method, &reply);
+        drop(reply);
+        match put {
             Ok(()) => return Ok(()),
             Err(NoMemory) => writer.clear(),
         }
