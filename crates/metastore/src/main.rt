@@ -10,16 +10,17 @@ use local::local;
 use server_cli::{Plan, plan};
 use serving::serve;
 use std::process::ExitCode;
-use words::{command_of, path_of, words};
+use words::{command_of, dumps_of, path_of, words};
 
 fn main(rt: HostRuntime) -> ExitCode {
     let alloc = rt.alloc();
     let Ok(words) = words(&rt) else {
         return ExitCode::from(10);
     };
-    let (Ok(path_a), Ok(path_b)) = (
+    let (Ok(path_a), Ok(path_b), Ok(dumps)) = (
         path_of(alloc, &words, "store.a"),
         path_of(alloc, &words, "store.b"),
+        dumps_of(alloc, &words),
     ) else {
         return ExitCode::from(10);
     };
@@ -34,6 +35,7 @@ fn main(rt: HostRuntime) -> ExitCode {
             local(
                 &rt,
                 command,
+                dumps,
                 &mut input,
                 &mut output,
                 &mut errors,
@@ -42,7 +44,17 @@ fn main(rt: HostRuntime) -> ExitCode {
             )
         }
         Ok(Plan::Serve { port, workers }) => {
-            serve(&rt, command, port, workers, &mut errors, disk_a, disk_b)
+            let dumps = dumps.as_str();
+            serve(
+                &rt,
+                command,
+                dumps,
+                port,
+                workers,
+                &mut errors,
+                disk_a,
+                disk_b,
+            )
         }
         Err(_) => 10,
     };

@@ -4,6 +4,7 @@ ghost use Rattle.std.specs.Prelude.{◌≡◌, ◌<◌, IfOk, map, string_bytes,
 ghost use Rattle.server_cli.specs.Words.{Asks};
 ghost use Rattle.server_cli.specs.declared.words.Serving.{Serving};
 
+use crate::words::copy_of;
 use hms_folders::DirFolder;
 use hms_listeners::TcpDoor;
 use hms_outside::{Disk, Sink, SystemClock};
@@ -18,7 +19,11 @@ use std::thread::Threads;
 use std::time;
 
 /// A door, a folder and a clock for each worker.
-type Places<'a, R> = (Vec<TcpDoor<'a>>, Vec<DirFolder<'a, R>>, Vec<SystemClock<&'a R>>);
+type Places<'a, R> = (
+    Vec<TcpDoor<'a>>,
+    Vec<DirFolder<'a, R>>,
+    Vec<SystemClock<&'a R>>,
+);
 
 /// Serves connections at this port of the loopback by so many workers, which are as many as the words
 /// ask, and returns the status.

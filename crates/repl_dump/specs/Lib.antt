@@ -1,5 +1,0 @@
-pub mod Refusals
-pub mod Opened
-pub mod Files
-pub mod Turns
-pub mod Dumps
