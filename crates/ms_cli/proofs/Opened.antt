@@ -3,7 +3,7 @@ use Rattle.std.proofs.Common.{◌≡◌, ◌∙◌, ℕ, ◌≤◌, List, [], �
 use Rattle.std.proofs.lemmas.Bool.{false≢true}
 use Rattle.std.specs.Prelude.{IfSome}
 use Rattle.desk.specs.History.{Entry, Legal, MayReopen, NoneAbove, Point, Start, found_done, point_after, point_of, state_found, took}
-use Rattle.desk.specs.State.{State, start as new_state}
+use Rattle.desk.specs.State.{State, durable, start as new_state}
 use Rattle.engine.specs.Keeping.{IsReopened, Kept, KeptSince, LeavesState}
 use Rattle.engine.specs.Opening.{Opens}
 use Rattle.engine.specs.Stores.{fault_number}
@@ -42,16 +42,16 @@ piped old mid new status s opens fault later other past reopened went met errors
   status_is = h.3;
 }
 
--- what is kept for a history that just began opens to its start
-first_opens : (state : State) (c : List ℕ) (done : Option ℕ) → MayReopen done [] → Opens c (state_found state (found_done done [])) → Opens c state
+-- what is kept for a history that just began opens to what is on the disks of its start
+first_opens : (state : State) (c : List ℕ) (done : Option ℕ) → MayReopen done [] → Opens c (state_found state (found_done done [])) → Opens c (durable state)
 first_opens state c None may opens = opens
 first_opens state c (Some n) may opens = absurd (false≢true may)
 
-kept_first : (s : Start) (es : List Entry) (state : State) (lies : Option Lies) → es ≡ [] → s.state ≡ state → IfSome lies (λ d. Kept (point_after (point_of s) (map took es)) d.held) → IfSome lies (λ d. Opens d.held state)
+kept_first : (s : Start) (es : List Entry) (state : State) (lies : Option Lies) → es ≡ [] → s.state ≡ state → IfSome lies (λ d. Kept (point_after (point_of s) (map took es)) d.held) → IfSome lies (λ d. Opens d.held (durable state))
 kept_first s es state None none is kept = tt
 kept_first s es state (Some d) none is kept =
     let first : Kept (point_of s) d.held = subst (λ (l : List Entry). Kept (point_after (point_of s) (map took l)) d.held) none kept in
-    subst (λ (t : State). Opens d.held t) is (first_opens s.state d.held first.done first.may first.opens)
+    subst (λ (t : State). Opens d.held (durable t)) is (first_opens s.state d.held first.done first.may first.opens)
 
 -- a store was made, and its line written
 pub made : (id : List ℕ) (old new : Outside) (status : ℕ) (end : End) (s : Start) (es : List Entry) (left : Disk) → new.disk_a ≡ left → es ≡ [] → s.state ≡ new_state id 0 → IfSome old.disk_a.lies (λ d. d.held ≡ [])
