@@ -1,0 +1,5 @@
+pub mod Found
+pub mod Rows
+pub mod Heads
+pub mod Whole
+pub mod Once

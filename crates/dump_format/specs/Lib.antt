@@ -1,0 +1,4 @@
+pub mod Harms
+pub mod Files
+pub mod Dumps
+pub mod Laws
