@@ -1,5 +1,5 @@
 -- The files of a dump, as its answers make them.
-use Rattle.std.specs.Prelude.{ℕ, ◌+◌, Bool, true, false, List, [], ◌∷◌, ◌++◌, length, map, codes, Option, None, Some, is_some}
+use Rattle.std.specs.Prelude.{ℕ, ◌+◌, List, [], ◌∷◌, ◌++◌, length, map, codes, Option, None, Some, is_some}
 use Rattle.std.specs.Fmt.{decimal}
 use Rattle.cat_types.specs.declared.changes.Event.{Event}
 use Rattle.cat_types.specs.declared.items.Item.{Item}
