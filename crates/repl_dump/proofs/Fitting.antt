@@ -3,6 +3,7 @@ use Rattle.std.proofs.Common.{◌≡◌, ◌≢◌, ℕ, zero, suc, Bool, true, 
 use Rattle.std.specs.Prelude.{nat_lt}
 use Rattle.std.specs.List.{AllByRecursion, filter}
 use Rattle.std.proofs.lemmas.Bool.{false≢true}
+use Rattle.std.proofs.lemmas.Bool.Decides.{nat_tests}
 use Rattle.cat_types.specs.declared.changes.Event.{Event}
 use Rattle.cat_types.specs.declared.items.Item.{Item}
 use Rattle.cat_types.specs.declared.steps.Answer.{Answer}
@@ -44,9 +45,9 @@ in_open P found dump allows cat finds is allowed here gone =
     subst (λ (o : Option OpenDump). P (answered_in o allows cat finds)) (sym is) (by_test (allows dump.kind) (is_born dump.born (database cat dump.db)) allowed)
   where
     by_test : (b c : Bool) → b ≡ true → P (cond b (cond c (finds dump) (answer.DumpRefused (DatabaseGone dump.born))) answer.NotOpen)
-    by_test true true yes = here
-    by_test true false yes = gone dump.born
-    by_test false c yes = absurd (false≢true yes)
+    by_test true true holds = here
+    by_test true false holds = gone dump.born
+    by_test false c holds = absurd (false≢true holds)
 
 table_fits : (newest : ℕ) (found : Option (List ℕ × HeldTable)) → FitsTable (told_table newest found)
 table_fits newest None = tt
@@ -59,8 +60,8 @@ are_parts newest name born (suc n) (p ∷ ps) = (tt, are_parts newest name born 
 
 -- where more than so many are there, so many were taken
 some_taken : {T : Type 0} (n : ℕ) (xs : List T) → nat_lt (suc n) (length xs) ≡ true → take (suc n) xs ≢ []
-some_taken n [] more = λ none. absurd cc
-some_taken n (x ∷ xs) more = λ none. absurd cc
+some_taken n [] more = absurd (grind (arith, nat_tests, more))
+some_taken n (x ∷ xs) more = λ empty. absurd cc
 
 pub fits_table : (s : State) (before me after number : ℕ) (cursor : Option (List ℕ)) (given : Answer) (dump : OpenDump) → MayAnswer s before me (DumpTable number cursor) given after → open_dump me number s.dumps ≡ Some dump → takes_objects dump.kind ≡ true → FitsTable given
 fits_table s before me after number cursor given dump may is allowed =

@@ -18,8 +18,8 @@ use Rattle.desk.specs.History.{Entry, IsLegal, MayFollow, Point, Transition, nex
 use Rattle.desk.specs.State.{State, asked_for, beginning, beginning_by, due, due_dumps, dumps_begun, is_refused, refused_dump}
 use Rattle.dump_steps.specs.Open.{is_dump, open_dump, sealed_at, takes_objects, with_sealed, without_dump}
 use Rattle.dump_steps.specs.Pieces.{is_taken_in}
-use Rattle.dump_steps.specs.Ranges.{Asked}
 use Rattle.dump_steps.specs.declared.open_dumps.OpenDump.{OpenDump}
+use Rattle.dump_steps.specs.declared.ranges.Asked.{Asked}
 
 -- a dump of one caller isn't another's
 apart : (me you n m : ℕ) (dump : OpenDump) → (you ≡ me → ⊥) → is_dump me n dump ≡ true → is_dump you m dump ≡ true → ⊥

@@ -2,4 +2,3 @@ pub mod Refusals
 pub mod Opened
 pub mod Files
 pub mod Turns
-pub mod Dumps

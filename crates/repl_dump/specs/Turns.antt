@@ -1,5 +1,5 @@
 -- One step of a dump, and how it goes on.
-use Rattle.std.specs.Prelude.{◌≡◌, ◌≢◌, ℕ, ◌+◌, ◌-◌, ◌*◌, List, [], ◌∷◌, ◌++◌, length, Bool, true, Some}
+use Rattle.std.specs.Prelude.{◌≡◌, ◌≢◌, ◌⊎◌, ℕ, ◌+◌, ◌-◌, ◌*◌, List, [], ◌∷◌, ◌++◌, length, Bool, true, Option, Some, Result, MatchResult}
 use Rattle.std.specs.List.{AllByRecursion}
 use Rattle.cat_types.specs.declared.steps.Answer.{Answer}
 use Rattle.cat_types.specs.declared.steps.Answer.TheVariants as answer
@@ -9,6 +9,7 @@ use Rattle.cat_values.specs.declared.list_of.TheConstants.{LIST_END}
 use Rattle.desk.specs.History.{Entry}
 use Rattle.desk.specs.Walks.{Goes, MayFail, Moves, Place, done, step_at}
 use Rattle.desk.specs.Walks as walk
+use Rattle.repl_dump.specs.Files.{Files, IsTold}
 use Rattle.repl_dump.specs.declared.failure.Failure.{Failure}
 use Rattle.repl_dump.specs.declared.failure.Failure.TheVariants as failure
 use Rattle.repl_dump.specs.declared.place.Place.{Place as At}
@@ -109,3 +110,30 @@ FitsPlace walk.seal given = FitsSeal given
 FitsPlace (walk.events after) given = FitsEvents given
 FitsPlace walk.end given = ⊥
 FitsPlace walk.done given = ⊥
+
+-- ---- what is done with an answer
+
+-- a failure that no answer told
+abbrev pub IsOwn : Failure → Type 0
+IsOwn (failure.Refused refusal) = ⊥
+IsOwn failure.FolderFault = Unit {0}
+IsOwn failure.NoMemory = Unit {0}
+
+-- an answer is this refusal, or tells want of memory
+abbrev pub Refuses : Failure → Answer → Type 0
+Refuses (failure.Refused refusal) given = given ≡ answer.DumpRefused refusal
+Refuses failure.FolderFault given = ⊥
+Refuses failure.NoMemory given = given ≡ answer.NoMemory
+
+-- a walk breaks off after an answer: by what it tells; or it leads on, but it couldn't be written
+abbrev pub Breaks : Failure → ℕ → Place → Answer → Type 0
+Breaks failed begin from given = Refuses failed given ⊎ (IsOwn failed × ((to : Place) × Moves begin from given to × (to ≢ done)))
+
+-- an answer leads to a place, and was written
+pub record Arrives (begin : ℕ) (from : Place) (given : Answer) (to : At) (old new : Writer) (before after : Option Files) : Type 0 where
+  pub moves : Moves begin from given (place_of to)
+  pub told : IsTold given old new before after
+
+-- an answer leads on and was written, or the walk breaks off there
+abbrev pub GoesOn : ℕ → Place → Answer → Result At Failure → Writer → Writer → Option Files → Option Files → Type 0
+GoesOn begin from given result old new before after = MatchResult result (λ to. Arrives begin from given to old new before after) (λ failed. Breaks failed begin from given)

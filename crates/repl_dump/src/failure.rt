@@ -1,6 +1,11 @@
 //! How a dump fails.
 
+ghost use Rattle.std.specs.Prelude.{◌≡◌, ◌↔◌};
+ghost use Rattle.repl_dump.specs.declared.failure.Failure.TheVariants.{NoMemory};
+ghost use Rattle.repl_dump.specs.Turns.{IsOwn};
+
 use cat_types::{DumpRefusal, NoMemory};
+use hms_outside::Outage;
 
 /// Why a dump that was begun goes no further.
 #[derive(Clone, Copy, Debug, PartialEq, Eq)]
@@ -14,9 +19,20 @@ pub enum Failure {
 }
 
 impl From<NoMemory> for Failure {
-    fn from(_refused: NoMemory) -> Failure
-        ensures { result ≡ Failure.NoMemory }
-    {
+    ghost from_gives = { λ _ failure. failure ≡ NoMemory };
+
+    fn from(_refused: NoMemory) -> Failure {
         Failure::NoMemory
+    }
+}
+
+/// How a fault of the folder is told.
+pub fn failure_of(outage: Outage) -> Failure
+    ensures own { IsOwn result }
+    ensures failed { result ≡ Failure.FolderFault → outage ≡ Outage.Failed }
+{
+    match outage {
+        Outage::Failed => Failure::FolderFault,
+        Outage::NoMemory => Failure::NoMemory,
     }
 }

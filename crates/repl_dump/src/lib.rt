@@ -4,11 +4,11 @@
 
 mod arriving;
 mod asking;
-mod dumping;
 mod failure;
 mod place;
 mod refusals;
 mod writer;
 
-pub use dumping::{DumpAnswer, dump};
+pub use arriving::go_on;
+pub use asking::step_of;
 pub use refusals::refusal_text;

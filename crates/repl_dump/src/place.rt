@@ -1,5 +1,8 @@
 //! Where a dump stands.
 
+ghost use Rattle.std.specs.Prelude.{◌≡◌, ◌↔◌, IsTrue};
+ghost use Rattle.repl_dump.specs.declared.place.Place.TheVariants.{End};
+
 use cat_types::{Text, Texts};
 
 /// The next thing that a dump asks for.
@@ -21,7 +24,9 @@ pub enum Place {
 
 impl Place {
     /// Whether nothing is left to be asked for but the end.
-    pub fn is_end(&self) -> bool {
+    pub fn is_end(&self) -> bool
+        ensures { IsTrue result ↔ (self.now ≡ End) }
+    {
         matches!(self, Place::End)
     }
 }
