@@ -4,3 +4,6 @@ pub mod Putting
 pub mod Writing
 pub mod Lasts
 pub mod Standing
+pub mod Growing
+pub mod Stepping
+pub mod Opening

@@ -4,11 +4,12 @@
 
 mod arriving;
 mod asking;
+mod dumping;
 mod failure;
 mod place;
 mod refusals;
+mod walking;
 mod writer;
 
-pub use arriving::go_on;
-pub use asking::step_of;
+pub use dumping::{DumpAnswer, dump};
 pub use refusals::refusal_text;
