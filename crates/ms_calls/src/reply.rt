@@ -2,10 +2,10 @@
 
 ghost use Rattle.std.specs.Prelude.{◌≡◌, ◌==◌, IfOk, IsSome, map, pos};
 ghost use Rattle.std.specs.Option.{option_copied};
-ghost use Rattle.thrift_binary.specs.Codes.{list_code, map_code, oneway_kind, struct_code};
+ghost use Rattle.thrift_binary.specs.Codes.{i64_code, list_code, map_code, oneway_kind, struct_code};
 ghost use Rattle.thrift_binary.specs.Sending.{Gathers};
 ghost use Rattle.thrift_binary.specs.Strict.{fields_bytes, message_bytes, wire_bytes};
-ghost use Rattle.thrift_binary.specs.Tree.{Field, NoFields, Struct};
+ghost use Rattle.thrift_binary.specs.Tree.{Field, NoFields, Number, Struct};
 ghost use Rattle.ms_structs.specs.Dumps.{dump_result};
 ghost use Rattle.ms_structs.specs.Notifications.{cut_long, events_fields, newest_fields};
 ghost use Rattle.ms_structs.specs.Written.{items_tree, params_tree};
@@ -172,10 +172,7 @@ fn put_result(
         (ResultType::Events, Reply::Events(events)) => put_events(alloc, writer, events),
         (ResultType::NewestEvent, Reply::Big(number)) => put_newest(writer, *number),
         (ResultType::DumpResult, Reply::Dumped(dir, last)) => put_dumped(writer, dir, *last),
-        (ResultType::Long, Reply::Big(number)) => {
-            writer.field(type_code::I64, 0)?;
-            writer.long(*number)
-        }
+        (ResultType::Long, Reply::Big(number)) => put_long(writer, *number),
         _ => unreachable!(),
     }
 }
@@ -380,6 +377,14 @@ fn put_dumped(writer: &mut WireWriter, dir: &Text, last: u64) -> Result<(), NoMe
 {
     writer.field(type_code::STRUCT, 0)?;
     write_repl_dump_result(writer, dir, cut_long(last))
+}
+
+// A number of eight bytes, under field 0.
+fn put_long(writer: &mut WireWriter, number: i64) -> Result<(), NoMemory>
+    ensures { Gathers writer.old writer.new result (fields_bytes (Field i64_code (pos 0) (Number number) NoFields)) }
+{
+    writer.field(type_code::I64, 0)?;
+    writer.long(number)
 }
 
 // The fields of a refusal, by its code where every call may be answered it, or by the id of its exception.
