@@ -1,6 +1,6 @@
 //! The top call of one process.
 
-ghost use Rattle.std.specs.Prelude.{◌≡◌, ◌≢◌, ◌⊎◌, IfSome, List, map, string_bytes, ℕ};
+ghost use Rattle.std.specs.Prelude.{◌≡◌, ◌≢◌, ◌≤◌, ◌⊎◌, IfSome, List, map, string_bytes, ℕ};
 ghost use Rattle.hms_outside.specs.Causes.{Rose};
 ghost use Rattle.ms_cli.specs.Keeping.{RefusesStore, seen};
 ghost use Rattle.ms_cli.specs.Local.{Runs};
@@ -31,15 +31,16 @@ pub struct LocalEnd<D> {
 ///
 /// `init HEXID` makes a store on disks that have no bytes, and writes the line `init HEXID`. `pipe`
 /// opens the store that the disks hold and answers the messages of `input` on `output`, as its one
-/// caller. Each call of the catalogue is one step of that store, at the clock's next moment; what it
-/// changes is on the disk before its reply is written, and stays there whatever crash comes.
+/// caller. Each call of the catalogue is one step of that store, at the clock's next moment, a trim is
+/// one step, and a dump is several; what a step changes is on the disk before its reply is written, and
+/// stays there whatever crash comes.
 ///
 /// The status is 0 where all was done: the store was made, the whole input was messages, or one of
 /// them asked for the end of the session, behind which nothing is read. It is 2 where the words name
 /// no command; 3 where the input failed, and 4 where the output did; 5 where a disk failed and so no
 /// store was made or opened; 6 where the disk's bytes refuse that; 7 where the input stops being
 /// messages; 10 where memory was refused. `errors` gains a line that tells any status but 0. The
-/// disks come back whatever the status. The folder is not used yet.
+/// disks come back whatever the status. Dumps are written into the folder.
 pub fn run_local<S: Source, K: Sink, E: Sink, D: Disk, F: Folder, C: Clock>(
     alloc: Global,
     words: &[String],
@@ -59,7 +60,8 @@ pub fn run_local<S: Source, K: Sink, E: Sink, D: Disk, F: Folder, C: Clock>(
     ensures store { result.status ≡ 6 → (command : Command) × Names (map string_bytes words.now) command × IfSome (D.lies disk_a) (λ d. RefusesStore command d.held) }
     ensures input_stays { result.status ≢ 3 → S.faults input.new ≡ S.faults input.old }
     ensures output_stays { result.status ≢ 4 → K.faults output.new ≡ K.faults output.old }
-    ensures folder { folder.new ≡ folder.old }
+    ensures folder_later { F.faults folder.old ≤ F.faults folder.new }
+    ensures folder { result.status ≡ 2 → folder.new ≡ folder.old }
     ensures input { result.status ≡ 2 → input.new ≡ input.old }
     ensures output { result.status ≡ 2 → output.new ≡ output.old }
     ensures clock { result.status ≡ 2 → clock.new ≡ clock.old }

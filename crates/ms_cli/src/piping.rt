@@ -1,6 +1,6 @@
 //! Serving a session at the store that the disks hold.
 
-ghost use Rattle.std.specs.Prelude.{◌≡◌, ◌≢◌, ◌⊎◌, List, [], IfSome, ℕ};
+ghost use Rattle.std.specs.Prelude.{◌≡◌, ◌≢◌, ◌≤◌, ◌⊎◌, List, [], IfSome, ℕ};
 ghost use Rattle.hms_outside.specs.Causes.{Rose};
 ghost use Rattle.desk.specs.History.{Entry};
 ghost use Rattle.engine.specs.Opening.{IsBrokenStore};
@@ -38,7 +38,7 @@ pub fn pipe<S: Source, K: Sink, E: Sink, D: Disk, F: Folder, C: Clock>(
     ensures store { result.status ≡ 6 → IfSome (D.lies disk_a) (λ d. IsForeign d.held ⊎ ((at : ℕ) × IsBrokenStore at d.held)) }
     ensures input_stays { result.status ≢ 3 → S.faults input.new ≡ S.faults input.old }
     ensures output_stays { result.status ≢ 4 → K.faults output.new ≡ K.faults output.old }
-    ensures folder { folder.new ≡ folder.old }
+    ensures folder_later { F.faults folder.old ≤ F.faults folder.new }
 {
     match Engine::open_store(alloc, disk_a, disk_b) {
         Ok(engine) => serve(alloc, input, output, errors, engine, folder, clock),
@@ -62,7 +62,7 @@ fn serve<S: Source, K: Sink, E: Sink, D: Disk, F: Folder, C: Clock>(
     ensures write { result.status ≡ 4 → Rose (K.faults output.old) (K.faults output.new) }
     ensures input_stays { result.status ≢ 3 → S.faults input.new ≡ S.faults input.old }
     ensures output_stays { result.status ≢ 4 → K.faults output.new ≡ K.faults output.old }
-    ensures folder { folder.new ≡ folder.old }
+    ensures folder_later { F.faults folder.old ≤ F.faults folder.new }
 {
     let mut desk = LocalDesk::new(engine);
     let end = serve_session(alloc, input, output, &mut desk, folder, clock);

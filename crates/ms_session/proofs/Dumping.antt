@@ -17,9 +17,12 @@ use Rattle.desk.specs.History.{Entry, Legal, MayFollow, Start, point_of}
 use Rattle.desk.specs.State.{MayAnswer, State}
 use Rattle.desk.specs.Walks.{BrokenOff, DumpRun, Fails, Goes, MayFail, Place, Unbegun, Walked, Wanted, begin_step, broken, done, end, events, parts, place_begun, seal, step_at, tables, unbegun, whole}
 use Rattle.desk.proofs.Additions.{adds_one, adds_weaker}
+use Rattle.ms_calls.specs.Asked.{HasOwnMethod}
 use Rattle.ms_calls.specs.Replies.{CanReply}
 use Rattle.ms_calls.specs.Refusals.{out_of_memory, store_fault}
+use Rattle.ms_calls.specs.declared.method.Method.{Method}
 use Rattle.ms_calls.specs.declared.method.Method.TheVariants as method
+use Rattle.ms_calls.specs.declared.request.Asked.{Asked}
 use Rattle.ms_calls.specs.declared.request.Asked.TheVariants as ask
 use Rattle.ms_structs.specs.Notifications.{cut_long}
 use Rattle.repl_dump.specs.Dumps.{Dumps}
@@ -220,3 +223,13 @@ pub trimmed : {E : Type 0} (alone : Bool) (me : ℕ) (old new between : List Ent
 trimmed alone me old new between e upto clock files result mine is others grew sole trim replied =
     adds_one alone me old new between e (Did (ask.Trim upto) clock clock files files result) mine others grew sole
     (trim_reply e.1.answer, (e, refl, is, is_trim_reply e.1.answer trim, refl), untimed (e ∷ []) clock (subst IsNoCall (sym is) tt, tt), only_trim_replies e.1.answer result replied)
+
+-- ---- under the methods of their own
+
+-- a dump came under the method of dumps
+pub can_as_dump : {E : Type 0} (asked : Asked) (db : List ℕ) (from to limit : Option ℤ) (m : Option Method) (result : Result Reply E) → asked ≡ ask.Dump db from to limit → HasOwnMethod m asked → IfOk result (CanReply (Some method.ReplDump)) → IfOk result (CanReply m)
+can_as_dump asked db from to limit m result is own can = subst (λ (x : Option Method). IfOk result (CanReply x)) (sym (subst (HasOwnMethod m) is own)) can
+
+-- a trim came under the method of trims
+pub can_as_trim : {E : Type 0} (asked : Asked) (upto : ℤ) (m : Option Method) (result : Result Reply E) → asked ≡ ask.Trim upto → HasOwnMethod m asked → IfOk result (CanReply (Some method.TrimEvents)) → IfOk result (CanReply m)
+can_as_trim asked upto m result is own can = subst (λ (x : Option Method). IfOk result (CanReply x)) (sym (subst (HasOwnMethod m) is own)) can

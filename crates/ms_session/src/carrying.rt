@@ -7,7 +7,6 @@ ghost use Rattle.desk.specs.History.{Legal, NoneAbove};
 ghost use Rattle.ms_calls.specs.Asked.{CameAs, HasOwnMethod, IfClient, IfPlain};
 ghost use Rattle.ms_calls.specs.Replies.{CanReply};
 ghost use Rattle.ms_calls.specs.declared.method.Method.{Method};
-ghost use Rattle.ms_calls.specs.declared.method.Method.TheVariants as method;
 ghost use Rattle.ms_session.specs.Turns.{AnswersCall, Did, Files, IsReplyTo};
 
 use crate::dump_replies::{reply_to_dump, reply_to_trim};
@@ -88,7 +87,7 @@ fn dump_database<D: Desk, F: Folder>(
     ensures counted { NoneAbove (D.faults desk.old) (D.history desk.old) → NoneAbove (D.faults desk.new) (D.history desk.new) }
     ensures folder_later { F.faults folder.old ≤ F.faults folder.new }
     ensures carried { (clock : Option (List ℕ)) → Adds D.alone (D.caller desk.old) (D.history desk.old) (D.history desk.new) (Did (Asked.Dump db from to limit) clock clock (F.files folder.old) (F.files folder.new) result) }
-    ensures can { IfOk result (CanReply (Some method.ReplDump)) }
+    ensures can { IfOk result (CanReply (Some Method.ReplDump)) }
 {
     let answer = dump(alloc, desk, folder, &db, from, to, limit);
     drop(db);
@@ -103,7 +102,7 @@ fn trim_events<D: Desk>(alloc: Global, upto: i64, desk: &mut D) -> Result<Reply,
     ensures legal { Legal (D.start desk.new) (D.history desk.new) }
     ensures counted { NoneAbove (D.faults desk.new) (D.history desk.new) }
     ensures carried { (clock : Option (List ℕ)) → (files : Option Files) → Adds D.alone (D.caller desk.old) (D.history desk.old) (D.history desk.new) (Did (Asked.Trim upto) clock clock files files result) }
-    ensures can { IfOk result (CanReply (Some method.TrimEvents)) }
+    ensures can { IfOk result (CanReply (Some Method.TrimEvents)) }
 {
     reply_to_trim(alloc, desk.step(Step::Trim { upto }))
 }
