@@ -17,19 +17,16 @@ use Rattle.desk.specs.History.{Entry, Legal, MayFollow, Start, point_of}
 use Rattle.desk.specs.State.{MayAnswer, State}
 use Rattle.desk.specs.Walks.{BrokenOff, DumpRun, Fails, Goes, MayFail, Place, Unbegun, Walked, Wanted, begin_step, broken, done, end, events, parts, place_begun, seal, step_at, tables, unbegun, whole}
 use Rattle.desk.proofs.Additions.{adds_one, adds_weaker}
-use Rattle.ms_calls.specs.Asked.{HasOwnMethod}
 use Rattle.ms_calls.specs.Replies.{CanReply}
 use Rattle.ms_calls.specs.Refusals.{out_of_memory, store_fault}
-use Rattle.ms_calls.specs.declared.method.Method.{Method}
 use Rattle.ms_calls.specs.declared.method.Method.TheVariants as method
-use Rattle.ms_calls.specs.declared.request.Asked.{Asked}
 use Rattle.ms_calls.specs.declared.request.Asked.TheVariants as ask
 use Rattle.ms_structs.specs.Notifications.{cut_long}
 use Rattle.repl_dump.specs.Dumps.{Dumps}
 use Rattle.repl_dump.specs.declared.dumping.DumpAnswer.{DumpAnswer}
 use Rattle.repl_dump.specs.declared.dumping.DumpAnswer.TheVariants as dumped
 use Rattle.ms_session.specs.DumpReplies.{AnswersTrim, IsTrimReply, dump_reply, told_refusal}
-use Rattle.ms_session.specs.Turns.{Did, DumpedSo, Files, Timed, moments_of}
+use Rattle.ms_session.specs.Turns.{Did, DumpedSo, Files, Timed, moments_in, moments_of}
 use Rattle.ms_session.proofs.Results.{last_may}
 
 -- ---- steps that are no calls
@@ -96,19 +93,19 @@ in_dump wanted dumped.NoMemory old new own (inr d) = in_run wanted own d.run
 
 -- ---- no moment of the clock is taken
 
+no_moment : (s : Step) → IsNoCall s → moments_in s ≡ []
+no_moment (Client call moment) no = absurd no
+no_moment (DumpBegin db from to limit) no = refl
+no_moment (DumpTable dump after) no = refl
+no_moment (DumpParts dump table born after) no = refl
+no_moment (DumpSeal dump) no = refl
+no_moment (DumpEvents dump after) no = refl
+no_moment (DumpEnd dump) no = refl
+no_moment (Trim upto) no = refl
+
 no_moments : (entries : List Entry) → NoCalls entries → moments_of entries ≡ []
 no_moments [] none = refl
-no_moments (e ∷ es) none = by_step e.0.step none.0
-  where
-    by_step : (s : Step) → IsNoCall s → moments_of ((record { caller = e.0.caller; step = s }, e.1) ∷ es) ≡ []
-    by_step (Client call moment) no = absurd no
-    by_step (DumpBegin db from to limit) no = no_moments es none.1
-    by_step (DumpTable dump after) no = no_moments es none.1
-    by_step (DumpParts dump table born after) no = no_moments es none.1
-    by_step (DumpSeal dump) no = no_moments es none.1
-    by_step (DumpEvents dump after) no = no_moments es none.1
-    by_step (DumpEnd dump) no = no_moments es none.1
-    by_step (Trim upto) no = no_moments es none.1
+no_moments (e ∷ es) none = ap (λ (ms : List ℕ). ms ++ moments_of es) (no_moment e.0.step none.0) ∙ no_moments es none.1
 
 same_clock : (a : Option (List ℕ)) → Leads Same a a
 same_clock None = tt
@@ -161,12 +158,12 @@ is_trim_reply (answer.Kept first) trim = refl
 is_trim_reply answer.StoreFault trim = refl
 is_trim_reply answer.NoMemory trim = refl
 is_trim_reply (answer.Reply told) trim = absurd trim
-is_trim_reply (answer.Began dump source born begin end first) trim = absurd trim
+is_trim_reply (answer.Began dump source born begin last first) trim = absurd trim
 is_trim_reply (answer.Table item) trim = absurd trim
 is_trim_reply answer.NoTable trim = absurd trim
-is_trim_reply (answer.Parts parts more) trim = absurd trim
-is_trim_reply (answer.Sealed end) trim = absurd trim
-is_trim_reply (answer.Events events more) trim = absurd trim
+is_trim_reply (answer.Parts items more) trim = absurd trim
+is_trim_reply (answer.Sealed number) trim = absurd trim
+is_trim_reply (answer.Events found more) trim = absurd trim
 is_trim_reply answer.Ended trim = absurd trim
 is_trim_reply (answer.DumpRefused refusal) trim = absurd trim
 is_trim_reply answer.NotOpen trim = absurd trim
@@ -176,12 +173,12 @@ only_trim_reply (answer.Kept first) reply is = (is, subst (CanReply (Some method
 only_trim_reply answer.StoreFault reply is = (is, subst (CanReply (Some method.TrimEvents)) (sym is) refl)
 only_trim_reply answer.NoMemory reply is = (is, subst (CanReply (Some method.TrimEvents)) (sym is) refl)
 only_trim_reply (answer.Reply told) reply is = absurd is
-only_trim_reply (answer.Began dump source born begin end first) reply is = absurd is
+only_trim_reply (answer.Began dump source born begin last first) reply is = absurd is
 only_trim_reply (answer.Table item) reply is = absurd is
 only_trim_reply answer.NoTable reply is = absurd is
-only_trim_reply (answer.Parts parts more) reply is = absurd is
-only_trim_reply (answer.Sealed end) reply is = absurd is
-only_trim_reply (answer.Events events more) reply is = absurd is
+only_trim_reply (answer.Parts items more) reply is = absurd is
+only_trim_reply (answer.Sealed number) reply is = absurd is
+only_trim_reply (answer.Events found more) reply is = absurd is
 only_trim_reply answer.Ended reply is = absurd is
 only_trim_reply (answer.DumpRefused refusal) reply is = absurd is
 only_trim_reply answer.NotOpen reply is = absurd is
@@ -200,12 +197,12 @@ answers_trim s before caller after upto (answer.Kept first) may = tt
 answers_trim s before caller after upto answer.StoreFault may = tt
 answers_trim s before caller after upto answer.NoMemory may = tt
 answers_trim s before caller after upto (answer.Reply told) may = absurd cc
-answers_trim s before caller after upto (answer.Began dump source born begin end first) may = absurd cc
+answers_trim s before caller after upto (answer.Began dump source born begin last first) may = absurd cc
 answers_trim s before caller after upto (answer.Table item) may = absurd cc
 answers_trim s before caller after upto answer.NoTable may = absurd cc
-answers_trim s before caller after upto (answer.Parts parts more) may = absurd cc
-answers_trim s before caller after upto (answer.Sealed end) may = absurd cc
-answers_trim s before caller after upto (answer.Events events more) may = absurd cc
+answers_trim s before caller after upto (answer.Parts items more) may = absurd cc
+answers_trim s before caller after upto (answer.Sealed number) may = absurd cc
+answers_trim s before caller after upto (answer.Events found more) may = absurd cc
 answers_trim s before caller after upto answer.Ended may = absurd cc
 answers_trim s before caller after upto (answer.DumpRefused refusal) may = absurd cc
 answers_trim s before caller after upto answer.NotOpen may = absurd cc
@@ -224,12 +221,7 @@ trimmed alone me old new between e upto clock files result mine is others grew s
     adds_one alone me old new between e (Did (ask.Trim upto) clock clock files files result) mine others grew sole
     (trim_reply e.1.answer, (e, refl, is, is_trim_reply e.1.answer trim, refl), untimed (e ∷ []) clock (subst IsNoCall (sym is) tt, tt), only_trim_replies e.1.answer result replied)
 
--- ---- under the methods of their own
-
--- a dump came under the method of dumps
-pub can_as_dump : {E : Type 0} (asked : Asked) (db : List ℕ) (from to limit : Option ℤ) (m : Option Method) (result : Result Reply E) → asked ≡ ask.Dump db from to limit → HasOwnMethod m asked → IfOk result (CanReply (Some method.ReplDump)) → IfOk result (CanReply m)
-can_as_dump asked db from to limit m result is own can = subst (λ (x : Option Method). IfOk result (CanReply x)) (sym (subst (HasOwnMethod m) is own)) can
-
--- a trim came under the method of trims
-pub can_as_trim : {E : Type 0} (asked : Asked) (upto : ℤ) (m : Option Method) (result : Result Reply E) → asked ≡ ask.Trim upto → HasOwnMethod m asked → IfOk result (CanReply (Some method.TrimEvents)) → IfOk result (CanReply m)
-can_as_trim asked upto m result is own can = subst (λ (x : Option Method). IfOk result (CanReply x)) (sym (subst (HasOwnMethod m) is own)) can
+-- the same of the same number
+pub trim_again : {E : Type 0} (alone : Bool) (me : ℕ) (old new : List Entry) (a b : ℤ) (clock : Option (List ℕ)) (files : Option Files) (result : Result Reply E) → a ≡ b → Adds alone me old new (Did (ask.Trim a) clock clock files files result)
+    → Adds alone me old new (Did (ask.Trim b) clock clock files files result)
+trim_again alone me old new a b clock files result is h = subst (λ (z : ℤ). Adds alone me old new (Did (ask.Trim z) clock clock files files result)) is h
