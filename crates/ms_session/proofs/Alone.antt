@@ -412,21 +412,21 @@ trimmed_keeps s first = by_test (s.first == first)
     by_test false = refl
 
 no_call_keeps : (s : State) (caller : ℕ) (t : Step) → IsNoCall t → (due_in s caller t).state.catalogue ≡ s.catalogue
-no_call_keeps s caller (step.Client call moment) no = absurd no
-no_call_keeps s caller (step.DumpBegin db from to limit) no = drawn_keeps s (refused_dump s db (asked_for from to limit))
-no_call_keeps s caller (step.DumpTable dump after) no = refl
-no_call_keeps s caller (step.DumpParts dump table born after) no = refl
-no_call_keeps s caller (step.DumpSeal dump) no = refl
-no_call_keeps s caller (step.DumpEvents dump after) no = refl
-no_call_keeps s caller (step.DumpEnd dump) no = refl
-no_call_keeps s caller (step.Trim upto) no = trimmed_keeps s (first_after_trim s upto)
+no_call_keeps s caller (step.Client call moment) free = absurd free
+no_call_keeps s caller (step.DumpBegin db from to limit) free = drawn_keeps s (refused_dump s db (asked_for from to limit))
+no_call_keeps s caller (step.DumpTable dump after) free = refl
+no_call_keeps s caller (step.DumpParts dump table born after) free = refl
+no_call_keeps s caller (step.DumpSeal dump) free = refl
+no_call_keeps s caller (step.DumpEvents dump after) free = refl
+no_call_keeps s caller (step.DumpEnd dump) free = refl
+no_call_keeps s caller (step.Trim upto) free = trimmed_keeps s (first_after_trim s upto)
 
 no_call_stays : (s : State) (caller : ℕ) (t : Step) (a : Answer) → IsNoCall t → HasDefault s.catalogue → HasDefault (state_after_answer s caller t a).catalogue
-no_call_stays s caller t a no has = by_test (is_refused a)
+no_call_stays s caller t a free has = by_test (is_refused a)
   where
     by_test : (b : Bool) → HasDefault (cond b s (due_in s caller t).state).catalogue
     by_test true = has
-    by_test false = ap (λ (cat : Catalogue). keys_of cat.databases) (no_call_keeps s caller t no) ∙ has
+    by_test false = ap (λ (cat : Catalogue). keys_of cat.databases) (no_call_keeps s caller t free) ∙ has
 
 -- ---- messages
 

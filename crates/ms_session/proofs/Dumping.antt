@@ -94,14 +94,14 @@ in_dump wanted dumped.NoMemory old new own (inr d) = in_run wanted own d.run
 -- ---- no moment of the clock is taken
 
 no_moment : (s : Step) → IsNoCall s → moments_in s ≡ []
-no_moment (Client call moment) no = absurd no
-no_moment (DumpBegin db from to limit) no = refl
-no_moment (DumpTable dump after) no = refl
-no_moment (DumpParts dump table born after) no = refl
-no_moment (DumpSeal dump) no = refl
-no_moment (DumpEvents dump after) no = refl
-no_moment (DumpEnd dump) no = refl
-no_moment (Trim upto) no = refl
+no_moment (Client call moment) free = absurd free
+no_moment (DumpBegin db from to limit) free = refl
+no_moment (DumpTable dump after) free = refl
+no_moment (DumpParts dump table born after) free = refl
+no_moment (DumpSeal dump) free = refl
+no_moment (DumpEvents dump after) free = refl
+no_moment (DumpEnd dump) free = refl
+no_moment (Trim upto) free = refl
 
 no_moments : (entries : List Entry) → NoCalls entries → moments_of entries ≡ []
 no_moments [] none = refl
