@@ -44,17 +44,7 @@ fn main(rt: HostRuntime) -> ExitCode {
             )
         }
         Ok(Plan::Serve { port, workers }) => {
-            let dumps = dumps.as_str();
-            serve(
-                &rt,
-                command,
-                dumps,
-                port,
-                workers,
-                &mut errors,
-                disk_a,
-                disk_b,
-            )
+            serve(&rt, command, port, workers, &mut errors, disk_a, disk_b)
         }
         Err(_) => 10,
     };

@@ -4,26 +4,18 @@ ghost use Rattle.std.specs.Prelude.{◌≡◌, ◌<◌, IfOk, map, string_bytes,
 ghost use Rattle.server_cli.specs.Words.{Asks};
 ghost use Rattle.server_cli.specs.declared.words.Serving.{Serving};
 
-use crate::words::copy_of;
-use hms_folders::DirFolder;
 use hms_listeners::TcpDoor;
-use hms_outside::{Disk, Sink, SystemClock};
+use hms_outside::{Disk, MemFolder, Sink, SystemClock};
 use ms_server::FreeGate;
 use server_cli::{ServerEnd, run_server, tell_status};
 use std::alloc::{AllocError, Global};
-use std::fs::File;
 use std::net::{Ipv4Addr, Net, TcpListener, TcpStream};
-use std::rt::Files;
 use std::sync::Wait;
 use std::thread::Threads;
 use std::time;
 
 /// A door, a folder and a clock for each worker.
-type Places<'a, R> = (
-    Vec<TcpDoor<'a>>,
-    Vec<DirFolder<'a, R>>,
-    Vec<SystemClock<&'a R>>,
-);
+type Places<'a, R> = (Vec<TcpDoor<'a>>, Vec<MemFolder>, Vec<SystemClock<&'a R>>);
 
 /// Serves connections at this port of the loopback by so many workers, which are as many as the words
 /// ask, and returns the status.
@@ -32,27 +24,17 @@ pub fn serve<
         + Threads
         + Wait
         + time::Clock
-        + Files<File = File>
         + Alloc<A = Global>
         + Sync,
     E: Sink,
     D: Disk + Send + Drop,
->(
-    rt: &R,
-    words: &[String],
-    dumps: &str,
-    port: u16,
-    workers: u32,
-    errors: &mut E,
-    disk_a: D,
-    disk_b: D,
-) -> u8
+>(rt: &R, words: &[String], port: u16, workers: u32, errors: &mut E, disk_a: D, disk_b: D) -> u8
     requires some { 0 < workers }
     requires asked { (asked : Serving) → Asks (map string_bytes words.now) asked → workers ≡ asked.workers }
 {
     let alloc = rt.alloc();
     let listener = TcpListener::bind(rt, (Ipv4Addr::LOCALHOST, port)).ok();
-    let Ok((doors, folders, clocks)) = places(rt, alloc, listener.as_ref(), dumps, workers) else {
+    let Ok((doors, folders, clocks)) = places(rt, alloc, listener.as_ref(), workers) else {
         return 10;
     };
     let ServerEnd {
@@ -72,11 +54,10 @@ pub fn serve<
 }
 
 // What each worker serves with.
-fn places<'a, R: time::Clock + Files<File = File> + Alloc<A = Global>>(
+fn places<'a, R: time::Clock>(
     rt: &'a R,
     alloc: Global,
     listener: Option<&'a TcpListener>,
-    dumps: &str,
     workers: u32,
 ) -> Result<Places<'a, R>, AllocError>
     ensures { IfOk result (λ p. (vec_len p.0 ≡ workers) × (vec_len p.1 ≡ workers) × (vec_len p.2 ≡ workers)) }
@@ -86,7 +67,7 @@ fn places<'a, R: time::Clock + Files<File = File> + Alloc<A = Global>>(
     let mut clocks = Vec::new(alloc);
     for _ in 0..workers {
         doors.push(TcpDoor::new(alloc, listener, None))?;
-        folders.push(DirFolder::new(rt, copy_of(alloc, dumps)?))?;
+        folders.push(MemFolder::new(alloc, Vec::new(alloc)))?;
         clocks.push(SystemClock::new(rt))?;
     }
     Ok((doors, folders, clocks))

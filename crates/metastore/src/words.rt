@@ -43,12 +43,7 @@ pub fn dumps_of(alloc: Global, words: &[String]) -> Result<String, AllocError> {
     if words.len() < BEFORE {
         return Ok(String::new(alloc));
     }
-    copy_of(alloc, words[2].as_str())
-}
-
-/// A text as a string of its own.
-pub fn copy_of(alloc: Global, text: &str) -> Result<String, AllocError> {
-    format!(in alloc; "{text}")
+    String::from_str(alloc, words[2].as_str())
 }
 
 /// The words of the command.
