@@ -1,0 +1,9 @@
+pub mod Staying
+pub mod Fitting
+pub mod Putting
+pub mod Writing
+pub mod Lasts
+pub mod Standing
+pub mod Growing
+pub mod Stepping
+pub mod Opening

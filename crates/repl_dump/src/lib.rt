@@ -1,0 +1,15 @@
+//! Dumps of a database: a caller asks for it step by step, while others take their turns, and writes
+//! what it is told into a folder.
+#![tactic(auto)]
+
+mod arriving;
+mod asking;
+mod dumping;
+mod failure;
+mod place;
+mod refusals;
+mod walking;
+mod writer;
+
+pub use dumping::{DumpAnswer, dump};
+pub use refusals::refusal_text;
