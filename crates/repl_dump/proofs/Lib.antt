@@ -7,3 +7,6 @@ pub mod Standing
 pub mod Growing
 pub mod Stepping
 pub mod Opening
+pub mod Turning
+pub mod Stopping
+pub mod Nearing
