@@ -1,6 +1,7 @@
 pub mod Turns
 pub mod Results
 pub mod Answering
+pub mod Dumping
 pub mod Sessions
 pub mod Alone
 pub mod WholeTexts

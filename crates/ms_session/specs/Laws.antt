@@ -93,6 +93,8 @@ MakesNone (ask.Client (DeletePartitionColumnStatistics db name part col)) = ⊤
 MakesNone (ask.Client (GetTableStatisticsReq db name cols)) = ⊤
 MakesNone (ask.Client (GetNextNotification last max)) = ⊤
 MakesNone (ask.Client GetCurrentNotificationEventId) = ⊤
+MakesNone (ask.Dump db from to limit) = ⊤
+MakesNone (ask.Trim upto) = ⊤
 MakesNone (ask.Plain reply) = ⊤
 MakesNone ask.Unknown = ⊤
 MakesNone (ask.BadArgument id) = ⊤
@@ -144,6 +146,8 @@ Lists names (ask.Client (DeletePartitionColumnStatistics db name part col)) repl
 Lists names (ask.Client (GetTableStatisticsReq db name cols)) reply = ⊤
 Lists names (ask.Client (GetNextNotification last max)) reply = ⊤
 Lists names (ask.Client GetCurrentNotificationEventId) reply = ⊤
+Lists names (ask.Dump db from to limit) reply = ⊤
+Lists names (ask.Trim upto) reply = ⊤
 Lists names (ask.Plain answer) reply = ⊤
 Lists names ask.Unknown reply = ⊤
 Lists names (ask.BadArgument id) reply = ⊤

@@ -1,20 +1,25 @@
 -- How one message is carried out at a desk, and how many are, one by one.
-use Rattle.std.specs.Prelude.{◌≡◌, ◌≢◌, ℕ, ◌+◌, ◌⊎◌, List, [], ◌∷◌, ◌++◌, length, map, take, Option, Result, IfOk, MatchResult}
+use Rattle.std.specs.Prelude.{◌≡◌, ◌≢◌, ℕ, ℤ, ◌+◌, ◌⊎◌, List, [], ◌∷◌, ◌++◌, length, map, take, Option, Result, IfOk, MatchResult}
 use Rattle.std.specs.List.{AllByRecursion, concat, flat_map}
 use Rattle.hms_outside.specs.Clocks.{Ticks}
 use Rattle.hms_outside.specs.Told.{Goes, Grew, Held, Same}
+use Rattle.cat_types.specs.declared.calls.Call.{Call}
 use Rattle.cat_types.specs.declared.replies.Reply.{Reply}
 use Rattle.cat_types.specs.declared.steps.Answer.{Answer}
 use Rattle.cat_types.specs.declared.steps.Answer.TheVariants as answer
 use Rattle.cat_types.specs.declared.steps.Step.{Step}
 use Rattle.cat_types.specs.declared.steps.Step.TheVariants as step
 use Rattle.desk.specs.History.{Entry}
+use Rattle.desk.specs.Walks.{Wanted}
 use Rattle.thrift_binary.specs.declared.head.Head.{Head}
 use Rattle.thrift_binary.specs.Codes.{oneway_kind}
 use Rattle.thrift_binary.specs.Messages.{Message, Asks, AreMessages}
 use Rattle.ms_calls.specs.Refusals.{bad_argument, out_of_memory, store_fault, unknown_method}
 use Rattle.ms_calls.specs.declared.request.Asked.{Asked}
-use Rattle.ms_calls.specs.declared.request.Asked.TheVariants.{Client, Plain, Unknown, BadArgument, Shutdown}
+use Rattle.ms_calls.specs.declared.request.Asked.TheVariants.{Client, Dump, Trim, Plain, Unknown, BadArgument, Shutdown}
+use Rattle.repl_dump.specs.Dumps.{Dumps}
+use Rattle.repl_dump.specs.declared.dumping.DumpAnswer.{DumpAnswer}
+use Rattle.ms_session.specs.DumpReplies.{IsTrimReply, dump_reply}
 use Rattle.ms_session.specs.Replies.{reply_bytes, sent_for}
 use Rattle.ms_session.specs.Requests.{asks}
 use Rattle.ms_session.specs.declared.request.Request.{Request}
@@ -43,9 +48,23 @@ Files = List (List ℕ × List ℕ)
 abbrev pub WithoutSteps : Reply → List Entry → Option Files → Option Files → Reply → Type 0
 WithoutSteps told entries before after reply = (entries ≡ []) × (reply ≡ told) × (after ≡ before)
 
--- the entries of the caller for what a message asks, the folder's files before and after it, as far as they are known, and the reply that is due: a call is one step, and its answer makes the reply; nothing else is a step, and no reply is due to the end of the session; the files stay
+-- a call was one step, its answer makes the reply, and the files stayed
+abbrev pub CalledOnce : Call → List Entry → Option Files → Option Files → Reply → Type 0
+CalledOnce call entries before after reply = (e : Entry) × (moment : ℕ) × (entries ≡ e ∷ []) × (e.0.step ≡ step.Client call moment) × IsReplyTo e.1.answer reply × (after ≡ before)
+
+-- a trim was one step, its answer makes the reply, and the files stayed
+abbrev pub TrimmedOnce : ℤ → List Entry → Option Files → Option Files → Reply → Type 0
+TrimmedOnce upto entries before after reply = (e : Entry) × (entries ≡ e ∷ []) × (e.0.step ≡ step.Trim upto) × IsTrimReply e.1.answer reply × (after ≡ before)
+
+-- a dump took its steps and left its files, and how it ended makes the reply
+abbrev pub DumpedSo : Wanted → List Entry → Option Files → Option Files → Reply → Type 0
+DumpedSo wanted entries before after reply = (given : DumpAnswer) × Dumps wanted given before after entries × (reply ≡ dump_reply given)
+
+-- the entries of the caller for what a message asks, the folder's files before and after it, as far as they are known, and the reply that is due: a call and a trim are one step each, and a dump is its walk; nothing else is a step, and no reply is due to the end of the session; only a dump may change files
 abbrev pub Due : Asked → List Entry → Option Files → Option Files → Reply → Type 0
-Due (Client call) entries before after reply = (e : Entry) × (moment : ℕ) × (entries ≡ e ∷ []) × (e.0.step ≡ step.Client call moment) × IsReplyTo e.1.answer reply × (after ≡ before)
+Due (Client call) entries before after reply = CalledOnce call entries before after reply
+Due (Dump db from to limit) entries before after reply = DumpedSo (record { db = db; from = from; to = to; limit = limit }) entries before after reply
+Due (Trim upto) entries before after reply = TrimmedOnce upto entries before after reply
 Due (Plain told) entries before after reply = WithoutSteps told entries before after reply
 Due Unknown entries before after reply = WithoutSteps unknown_method entries before after reply
 Due (BadArgument id) entries before after reply = WithoutSteps (bad_argument id) entries before after reply
@@ -73,7 +92,7 @@ replies_of turns = flat_map (λ turn. sent_for turn.message.head turn.reply) tur
 
 -- ---- the clock and the folder
 
--- the moments of the clock that a step was taken at: a call has one
+-- the moments of the clock that a step was taken at: a call has one, and no other step
 abbrev pub moments_in : Step → List ℕ
 moments_in (step.Client call moment) = moment ∷ []
 moments_in other = []

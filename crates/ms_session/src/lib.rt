@@ -1,7 +1,9 @@
-//! One session over any desk: messages in, replies out, and one step of the desk for each call.
+//! One session over any desk: messages in, replies out, one step of the desk for each call and each
+//! trim, and a walk of steps for each dump, which writes into a folder.
 #![tactic(auto)]
 
 mod carrying;
+mod dump_replies;
 mod end;
 mod laws;
 mod reply;

@@ -11,7 +11,7 @@ invariant-loop-request g l = record {
   read : g.S.Source.faults l.reader.source.now ≡ g.S.Source.faults l.initial.reader.source.now;
   write : g.K.Sink.faults l.sink ≡ g.K.Sink.faults l.initial.sink;
   clock : g.C.Clock.faults l.initial.clock ≤ g.C.Clock.faults l.clock;
-  folder : l.folder ≡ l.initial.folder;
+  folder : g.F.Folder.faults l.initial.folder ≤ g.F.Folder.faults l.folder;
   empty : l.writer ≡ [];
   unspent : l.reader.progress.fault ≡ None;
   caller : g.D.Desk.caller l.desk ≡ g.D.Desk.caller l.initial.desk;
