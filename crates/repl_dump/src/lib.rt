@@ -4,6 +4,8 @@
 
 mod arriving;
 mod asking;
+mod beginning;
+mod begun_dump;
 mod dumping;
 mod failure;
 mod place;

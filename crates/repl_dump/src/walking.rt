@@ -1,13 +1,13 @@
 //! The steps of a dump between its first and its last.
 
-ghost use Rattle.std.specs.Prelude.{◌≡◌, ◌≤◌, IsErrOf, MatchResult};
+ghost use Rattle.std.specs.Prelude.{◌≡◌, ◌≤◌, ◌<◌, IfOk, IsErrOf, MatchResult, OnOk};
 ghost use Rattle.desk.specs.Adds.{Adds};
 ghost use Rattle.desk.specs.History.{Legal, NoneAbove};
 ghost use Rattle.hms_outside.specs.Causes.{Rose};
 ghost use Rattle.hms_outside.specs.Told.{Goes};
 ghost use Rattle.repl_dump.specs.Files.{OthersStay};
 ghost use Rattle.repl_dump.specs.Opened.{Takes, allows, any_kind};
-ghost use Rattle.repl_dump.specs.Turns.{place_of};
+ghost use Rattle.repl_dump.specs.Turns.{place_of, steps_left};
 ghost use Rattle.repl_dump.specs.Walking.{Ends, Steps};
 
 use crate::arriving::go_on;
@@ -69,6 +69,8 @@ fn take_step<K: Desk, F: Folder>(
     ensures later { F.faults folder.old ≤ F.faults folder.new }
     ensures cause { IsErrOf result Failure.FolderFault → Rose (F.faults folder.old) (F.faults folder.new) }
     ensures stays { Goes (OthersStay writer.old.dir) (F.files folder.old) (F.files folder.new) }
+    ensures dir { OnOk result (writer.new.dir ≡ writer.old.dir) }
+    ensures nearer { IfOk result (λ to. steps_left writer.new to < steps_left writer.old place) }
     ensures steps { Adds K.alone (K.caller desk.old) (K.history desk.old) (K.history desk.new) (Steps number begin (place_of place) result writer.old writer.new (F.files folder.old) (F.files folder.new)) }
 {
     let Ok(step) = step_of(alloc, number, &place) else {
