@@ -65,7 +65,7 @@ grown_by dir items events (t ∷ []) [] n m first before after p q fits too one 
 grown_by dir items events (t ∷ []) (u ∷ us) n m first before after p q fits too one a b = absurd one
 grown_by dir items events (t ∷ (u ∷ ts)) us n m first before after p q fits too one a b = absurd one
 
-end_more : (end : ℕ) (answers : List Answer) (given : Answer) → end_told end (answers ++ given ∷ []) ≡ sealed_told given (end_told end answers)
+pub end_more : (end : ℕ) (answers : List Answer) (given : Answer) → end_told end (answers ++ given ∷ []) ≡ sealed_told given (end_told end answers)
 end_more end [] given = refl
 end_more end (x ∷ answers) given = end_more (sealed_told x end) answers given
 

@@ -10,3 +10,4 @@ pub mod Opening
 pub mod Turning
 pub mod Stopping
 pub mod Nearing
+pub mod Ending

@@ -68,3 +68,11 @@ grown texts None before after name bytes new a b = tt
 grown texts (Some f) None after name bytes new a b = absurd a
 grown texts (Some f) (Some g) None name bytes new a b = b
 grown texts (Some f) (Some g) (Some h) name bytes new a b = gained_more texts f g h name bytes a b new
+
+-- a name among the files of a directory is one of a kind and a number
+pub among_files : (dir : List ℕ) (items events : List (List ℕ)) (name : List ℕ) → IsAmong name (files_of dir items events) → (kind : FileKind) × (n : ℕ) × (name ≡ path_in dir (name_at kind n))
+among_files dir items events name is = by (in_parts dir items events name is)
+  where
+    by : IsAmong name (map (at_path dir) (files_from ItemFile 0 items)) ⊎ IsAmong name (map (at_path dir) (files_from EventFile 0 events)) → (kind : FileKind) × (n : ℕ) × (name ≡ path_in dir (name_at kind n))
+    by (inl one) = let found = among_from dir ItemFile 0 items name one in (ItemFile, found.0, found.2)
+    by (inr one) = let found = among_from dir EventFile 0 events name one in (EventFile, found.0, found.2)
