@@ -11,3 +11,4 @@ pub mod Turning
 pub mod Stopping
 pub mod Nearing
 pub mod Ending
+pub mod Joining
