@@ -55,7 +55,7 @@ use Rattle.ms_calls.specs.declared.request.Asked.TheVariants as ask
 use Rattle.ms_calls.specs.Refusals.{out_of_memory}
 use Rattle.ms_session.specs.Laws.{AloneListsDefault, Lists, MakesNone}
 use Rattle.ms_session.specs.Requests.{asks}
-use Rattle.ms_session.specs.Turns.{Due, Files, IsReplyTo, IsTurn, Turn}
+use Rattle.ms_session.specs.Turns.{Due, IsReplyTo, IsTurn, Shelf, Turn}
 use Rattle.ms_session.proofs.Dumping.{IsNoCall, NoCalls, in_dump}
 use Rattle.ms_session.proofs.Results.{reply_in}
 
@@ -435,7 +435,7 @@ abbrev Behind : List Entry → Type 0
 Behind more = (q : Point) × HasDefault q.state.catalogue × IsLegal q (map took more)
 
 -- a call of the catalogue that makes no database
-one_call : (p : Point) (call : Call) (entries more : List Entry) (before after : Option Files) (due reply : Reply) → HasDefault p.state.catalogue → MakesNone (ask.Client call) → IsLegal p (map took (entries ++ more)) → Due (ask.Client call) entries before after due → (reply ≡ due) ⊎ (reply ≡ out_of_memory)
+one_call : (p : Point) (call : Call) (entries more : List Entry) (before after : Shelf) (due reply : Reply) → HasDefault p.state.catalogue → MakesNone (ask.Client call) → IsLegal p (map took (entries ++ more)) → Due (ask.Client call) entries before after due → (reply ≡ due) ⊎ (reply ≡ out_of_memory)
     → Lists names (ask.Client call) reply × Behind more
 one_call p call entries more before after due reply has none legal d which =
     let all : IsLegal p (map took ((d.0 ∷ []) ++ more)) = subst (λ (es : List Entry). IsLegal p (map took (es ++ more))) d.2 legal in
@@ -451,10 +451,10 @@ steps_behind : (p : Point) (entries more : List Entry) → HasDefault p.state.ca
 steps_behind p [] more has legal none = (p, has, legal)
 steps_behind p (e ∷ es) more has legal none = steps_behind (next p (took e)) es more (no_call_stays p.state e.0.caller e.0.step e.1.answer none.0 has) legal.1 none.1
 
-one_message : (p : Point) (asked : Asked) (entries more : List Entry) (before after : Option Files) (due reply : Reply) → HasDefault p.state.catalogue → MakesNone asked → IsLegal p (map took (entries ++ more)) → Due asked entries before after due → (reply ≡ due) ⊎ (reply ≡ out_of_memory)
+one_message : (p : Point) (asked : Asked) (entries more : List Entry) (before after : Shelf) (due reply : Reply) → HasDefault p.state.catalogue → MakesNone asked → IsLegal p (map took (entries ++ more)) → Due asked entries before after due → (reply ≡ due) ⊎ (reply ≡ out_of_memory)
     → Lists names asked reply × Behind more
 one_message p (ask.Client call) entries more before after due reply has none legal d which = one_call p call entries more before after due reply has none legal d which
-one_message p (ask.Dump db from to limit) entries more before after due reply has none legal d which = (tt, steps_behind p entries more has legal (in_dump _ d.0 before after entries d.1))
+one_message p (ask.Dump db from to limit) entries more before after due reply has none legal d which = (tt, steps_behind p entries more has legal (in_dump _ d.0 before.files after.files entries d.1.dumps))
 one_message p (ask.Trim upto) entries more before after due reply has none legal d which = (tt, steps_behind p entries more has legal (subst NoCalls (sym d.1) (subst IsNoCall (sym d.2) tt, tt)))
 one_message p (ask.Plain r) entries more before after due reply has none legal d which = (tt, no_call p entries more has legal d.0)
 one_message p ask.Unknown entries more before after due reply has none legal d which = (tt, no_call p entries more has legal d.0)
@@ -469,5 +469,5 @@ all_turns p (t ∷ ts) new each none legal =
     (one.0, all_turns one.1.0 ts one.1.1 each.1 none.1 one.1.2)
 
 pub lists_default : AloneListsDefault
-lists_default id base turns bytes clock clock' files files' entries carried legal none =
+lists_default id base turns bytes clock clock' shelf shelf' entries carried legal none =
     all_turns (point_of (record { state = start id base; fault = 0; past = [] })) turns refl carried.each none (subst (λ (es : List Entry). IsLegal (point_of (record { state = start id base; fault = 0; past = [] })) (map took es)) carried.own legal)

@@ -1,7 +1,8 @@
 -- What a dump and a trim do at a desk, and what they are answered.
-use Rattle.std.proofs.Common.{◌≡◌, ◌⊎◌, ℕ, ℤ, Bool, List, [], ◌∷◌, ◌++◌, map, Option, Some, None, IsTrue, Result, Ok, Err, IfOk, refl, sym, ap, ◌∙◌, subst, inl, inr}
+use Rattle.std.proofs.Common.{◌≡◌, ◌≤◌, ◌⊎◌, ℕ, ℤ, Bool, List, [], ◌∷◌, ◌++◌, map, Option, Some, None, IsTrue, Result, Ok, Err, IfOk, refl, sym, ap, ◌∙◌, subst, inl, inr}
 use Rattle.std.specs.List.{AllByRecursion}
 use Rattle.std.specs.Prelude.{⊤}
+use Rattle.hms_outside.specs.Causes.{Rose}
 use Rattle.hms_outside.specs.Told.{Goes as Leads, Same}
 use Rattle.cat_types.specs.declared.replies.Reply.{Reply}
 use Rattle.cat_types.specs.declared.replies.Reply.TheVariants.{Big}
@@ -26,7 +27,7 @@ use Rattle.repl_dump.specs.Dumps.{Dumps}
 use Rattle.repl_dump.specs.declared.dumping.DumpAnswer.{DumpAnswer}
 use Rattle.repl_dump.specs.declared.dumping.DumpAnswer.TheVariants as dumped
 use Rattle.ms_session.specs.DumpReplies.{AnswersTrim, IsTrimReply, dump_reply, told_refusal}
-use Rattle.ms_session.specs.Turns.{Did, DumpedSo, Files, Timed, moments_in, moments_of}
+use Rattle.ms_session.specs.Turns.{Did, DumpedSo, DumpedTo, Files, Shelf, Timed, moments_in, moments_of, shelf_of}
 use Rattle.ms_session.proofs.Results.{last_may}
 
 -- ---- steps that are no calls
@@ -117,12 +118,13 @@ untimed entries clock none = subst (λ (ms : List ℕ). Timed ms clock clock) (s
 -- ---- a dump
 
 -- a dump was carried out, and how it ended makes the reply
-pub dumps_so : {E : Type 0} (alone : Bool) (me : ℕ) (old new : List Entry) (db : List ℕ) (from to limit : Option ℤ) (given : DumpAnswer) (clock : Option (List ℕ)) (files files' : Option Files) (result : Result Reply E)
-    → Adds alone me old new (Dumps (record { db = db; from = from; to = to; limit = limit }) given files files') → IfOk result (λ reply. reply ≡ dump_reply given) → Adds alone me old new (Did (ask.Dump db from to limit) clock clock files files' result)
-dumps_so alone me old new db from to limit given clock files files' result added told =
+pub dumps_so : {E : Type 0} (alone : Bool) (me : ℕ) (old new : List Entry) (db : List ℕ) (from to limit : Option ℤ) (given : DumpAnswer) (clock : Option (List ℕ)) (files files' : Option Files) (faults faults' : ℕ) (result : Result Reply E)
+    → Adds alone me old new (Dumps (record { db = db; from = from; to = to; limit = limit }) given files files') → faults ≤ faults' → (given ≡ dumped.FolderFault → Rose faults faults') → IfOk result (λ reply. reply ≡ dump_reply given)
+    → Adds alone me old new (Did (ask.Dump db from to limit) clock clock (shelf_of files faults) (shelf_of files' faults') result)
+dumps_so alone me old new db from to limit given clock files files' faults faults' result added later cause told =
     let wanted : Wanted = record { db = db; from = from; to = to; limit = limit } in
-    adds_weaker alone me old new (Dumps wanted given files files') (Did (ask.Dump db from to limit) clock clock files files' result)
-    (λ own d. (dump_reply given, (given, d, refl), untimed own clock (in_dump wanted given files files' own d), told)) added
+    adds_weaker alone me old new (Dumps wanted given files files') (Did (ask.Dump db from to limit) clock clock (shelf_of files faults) (shelf_of files' faults') result)
+    (λ own d. (dump_reply given, (given, record { dumps = d; later = later; cause = cause }, refl), untimed own clock (in_dump wanted given files files' own d), told)) added
 
 can_tell : (refusal : DumpRefusal) → CanReply (Some method.ReplDump) (told_refusal refusal)
 can_tell NoSuchDb = refl
@@ -214,14 +216,14 @@ trim_answered s old between new e upto is grew legal =
     answers_trim last.0.state last.0.fault e.0.caller e.1.fault upto e.1.answer (subst (λ (t : Step). MayAnswer last.0.state last.0.fault e.0.caller t e.1.answer e.1.fault) is last.1.1)
 
 -- a trim took its one step
-pub trimmed : {E : Type 0} (alone : Bool) (me : ℕ) (old new between : List Entry) (e : Entry) (upto : ℤ) (clock : Option (List ℕ)) (files : Option Files) (result : Result Reply E)
+pub trimmed : {E : Type 0} (alone : Bool) (me : ℕ) (old new between : List Entry) (e : Entry) (upto : ℤ) (clock : Option (List ℕ)) (shelf : Shelf) (result : Result Reply E)
     → e.0.caller ≡ me → e.0.step ≡ Trim upto → Others me between → new ≡ (old ++ between) ++ e ∷ [] → (IsTrue alone → new ≡ old ++ e ∷ [])
-    → AnswersTrim e.1.answer → IfOk result (IsTrimReply e.1.answer) → Adds alone me old new (Did (ask.Trim upto) clock clock files files result)
-trimmed alone me old new between e upto clock files result mine is others grew sole trim replied =
-    adds_one alone me old new between e (Did (ask.Trim upto) clock clock files files result) mine others grew sole
+    → AnswersTrim e.1.answer → IfOk result (IsTrimReply e.1.answer) → Adds alone me old new (Did (ask.Trim upto) clock clock shelf shelf result)
+trimmed alone me old new between e upto clock shelf result mine is others grew sole trim replied =
+    adds_one alone me old new between e (Did (ask.Trim upto) clock clock shelf shelf result) mine others grew sole
     (trim_reply e.1.answer, (e, refl, is, is_trim_reply e.1.answer trim, refl), untimed (e ∷ []) clock (subst IsNoCall (sym is) tt, tt), only_trim_replies e.1.answer result replied)
 
 -- the same of the same number
-pub trim_again : {E : Type 0} (alone : Bool) (me : ℕ) (old new : List Entry) (a b : ℤ) (clock : Option (List ℕ)) (files : Option Files) (result : Result Reply E) → a ≡ b → Adds alone me old new (Did (ask.Trim a) clock clock files files result)
-    → Adds alone me old new (Did (ask.Trim b) clock clock files files result)
-trim_again alone me old new a b clock files result is h = subst (λ (z : ℤ). Adds alone me old new (Did (ask.Trim z) clock clock files files result)) is h
+pub trim_again : {E : Type 0} (alone : Bool) (me : ℕ) (old new : List Entry) (a b : ℤ) (clock : Option (List ℕ)) (shelf : Shelf) (result : Result Reply E) → a ≡ b → Adds alone me old new (Did (ask.Trim a) clock clock shelf shelf result)
+    → Adds alone me old new (Did (ask.Trim b) clock clock shelf shelf result)
+trim_again alone me old new a b clock shelf result is h = subst (λ (z : ℤ). Adds alone me old new (Did (ask.Trim z) clock clock shelf shelf result)) is h

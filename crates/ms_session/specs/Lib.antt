@@ -4,3 +4,4 @@ pub mod DumpReplies
 pub mod Turns
 pub mod Session
 pub mod Laws
+pub mod DumpLaws

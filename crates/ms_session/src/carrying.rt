@@ -7,7 +7,7 @@ ghost use Rattle.desk.specs.History.{Legal, NoneAbove};
 ghost use Rattle.ms_calls.specs.Asked.{CameAs, HasOwnMethod, IfClient, IfPlain};
 ghost use Rattle.ms_calls.specs.Replies.{CanReply};
 ghost use Rattle.ms_calls.specs.declared.method.Method.{Method};
-ghost use Rattle.ms_session.specs.Turns.{AnswersCall, Did, Files, IsReplyTo};
+ghost use Rattle.ms_session.specs.Turns.{AnswersCall, Did, IsReplyTo, Shelf, shelf_of};
 
 use crate::dump_replies::{reply_to_dump, reply_to_trim};
 use cat_types::{Answer, Call, NoMemory, Reply, Step, Text};
@@ -32,7 +32,7 @@ pub fn carry_out<D: Desk, F: Folder, C: Clock>(
     ensures legal { Legal (D.start desk.old) (D.history desk.old) → Legal (D.start desk.new) (D.history desk.new) }
     ensures counted { NoneAbove (D.faults desk.old) (D.history desk.old) → NoneAbove (D.faults desk.new) (D.history desk.new) }
     ensures clock_later { C.faults clock.old ≤ C.faults clock.new }
-    ensures carried { Adds D.alone (D.caller desk.old) (D.history desk.old) (D.history desk.new) (Did asked (C.moments clock.old) (C.moments clock.new) (F.files folder.old) (F.files folder.new) result) }
+    ensures carried { Adds D.alone (D.caller desk.old) (D.history desk.old) (D.history desk.new) (Did asked (C.moments clock.old) (C.moments clock.new) (shelf_of (F.files folder.old) (F.faults folder.old)) (shelf_of (F.files folder.new) (F.faults folder.new)) result) }
     ensures folder_later { F.faults folder.old ≤ F.faults folder.new }
     ensures can { (method : Option Method) → IfPlain asked (CanReply method) → IfClient asked (CameAs method) → HasOwnMethod method asked → IfOk result (CanReply method) }
 {
@@ -52,7 +52,7 @@ pub fn carry_out<D: Desk, F: Folder, C: Clock>(
     }
 }
 
-// Takes one step of the desk for a call, whatever files there are.
+// Takes one step of the desk for a call, whatever the folder holds.
 fn call_desk<D: Desk, C: Clock>(
     alloc: Global,
     call: Call,
@@ -64,7 +64,7 @@ fn call_desk<D: Desk, C: Clock>(
     ensures legal { Legal (D.start desk.new) (D.history desk.new) }
     ensures counted { NoneAbove (D.faults desk.new) (D.history desk.new) }
     ensures clock_later { C.faults clock.old ≤ C.faults clock.new }
-    ensures carried { (files : Option Files) → Adds D.alone (D.caller desk.old) (D.history desk.old) (D.history desk.new) (Did (Asked.Client call) (C.moments clock.old) (C.moments clock.new) files files result) }
+    ensures carried { (shelf : Shelf) → Adds D.alone (D.caller desk.old) (D.history desk.old) (D.history desk.new) (Did (Asked.Client call) (C.moments clock.old) (C.moments clock.new) shelf shelf result) }
     ensures can { (method : Option Method) → CameAs method call → IfOk result (CanReply method) }
 {
     let moment = clock.now();
@@ -86,7 +86,7 @@ fn dump_database<D: Desk, F: Folder>(
     ensures legal { Legal (D.start desk.old) (D.history desk.old) → Legal (D.start desk.new) (D.history desk.new) }
     ensures counted { NoneAbove (D.faults desk.old) (D.history desk.old) → NoneAbove (D.faults desk.new) (D.history desk.new) }
     ensures folder_later { F.faults folder.old ≤ F.faults folder.new }
-    ensures carried { (clock : Option (List ℕ)) → Adds D.alone (D.caller desk.old) (D.history desk.old) (D.history desk.new) (Did (Asked.Dump db from to limit) clock clock (F.files folder.old) (F.files folder.new) result) }
+    ensures carried { (clock : Option (List ℕ)) → Adds D.alone (D.caller desk.old) (D.history desk.old) (D.history desk.new) (Did (Asked.Dump db from to limit) clock clock (shelf_of (F.files folder.old) (F.faults folder.old)) (shelf_of (F.files folder.new) (F.faults folder.new)) result) }
     ensures can { IfOk result (CanReply (Some Method.ReplDump)) }
 {
     let answer = dump(alloc, desk, folder, &db, from, to, limit);
@@ -94,14 +94,14 @@ fn dump_database<D: Desk, F: Folder>(
     reply_to_dump(alloc, answer)
 }
 
-// Takes one step of the desk for a trim, whatever files there are, and whatever the clock would
+// Takes one step of the desk for a trim, whatever the folder holds, and whatever the clock would
 // answer.
 fn trim_events<D: Desk>(alloc: Global, upto: i64, desk: &mut D) -> Result<Reply, NoMemory>
     ensures caller { D.caller desk.new ≡ D.caller desk.old }
     ensures start { D.start desk.new ≡ D.start desk.old }
     ensures legal { Legal (D.start desk.new) (D.history desk.new) }
     ensures counted { NoneAbove (D.faults desk.new) (D.history desk.new) }
-    ensures carried { (clock : Option (List ℕ)) → (files : Option Files) → Adds D.alone (D.caller desk.old) (D.history desk.old) (D.history desk.new) (Did (Asked.Trim upto) clock clock files files result) }
+    ensures carried { (clock : Option (List ℕ)) → (shelf : Shelf) → Adds D.alone (D.caller desk.old) (D.history desk.old) (D.history desk.new) (Did (Asked.Trim upto) clock clock shelf shelf result) }
     ensures can { IfOk result (CanReply (Some Method.TrimEvents)) }
 {
     reply_to_trim(alloc, desk.step(Step::Trim { upto }))

@@ -11,6 +11,8 @@ mod request;
 mod session;
 
 pub use end::End;
-pub use laws::{alone_lists_default, whole_texts_are_served};
+pub use laws::{
+    alone_lists_default, only_dumps_change_files, steps_are_opened, whole_texts_are_served,
+};
 pub use request::Request;
 pub use session::serve_session;

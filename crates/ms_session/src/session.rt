@@ -8,7 +8,7 @@ ghost use Rattle.thrift_binary.specs.Taking.{start};
 ghost use Rattle.ms_calls.specs.declared.request.Asked.{Asked};
 ghost use Rattle.ms_session.specs.Requests.{CameUnderItsName};
 ghost use Rattle.ms_session.specs.Session.{Session, end_of_fault};
-ghost use Rattle.ms_session.specs.Turns.{Answers};
+ghost use Rattle.ms_session.specs.Turns.{Answers, shelf_of};
 
 use crate::carrying::carry_out;
 use crate::reply::gather_reply;
@@ -40,7 +40,7 @@ pub fn serve_session<S: Source, K: Sink, D: Desk, F: Folder, C: Clock>(
     clock: &mut C,
 ) -> End
     ensures session { Adds D.alone (D.caller desk.old) (D.history desk.old) (D.history desk.new) (λ own.
-        Session (record { left = S.left source.old; held = K.held sink.old; clock = C.moments clock.old; files = F.files folder.old }) (record { left = S.left source.new; held = K.held sink.new; clock = C.moments clock.new; files = F.files folder.new }) own result) }
+        Session (record { left = S.left source.old; held = K.held sink.old; clock = C.moments clock.old; shelf = shelf_of (F.files folder.old) (F.faults folder.old) }) (record { left = S.left source.new; held = K.held sink.new; clock = C.moments clock.new; shelf = shelf_of (F.files folder.new) (F.faults folder.new) }) own result) }
     ensures caller { D.caller desk.new ≡ D.caller desk.old }
     ensures start { D.start desk.new ≡ D.start desk.old }
     ensures legal { Legal (D.start desk.old) (D.history desk.old) → Legal (D.start desk.new) (D.history desk.new) }
@@ -70,7 +70,7 @@ fn answer_all<S: Source, K: Sink, D: Desk, F: Folder, C: Clock>(
     requires { reader.old.progress ≡ start }
     ensures same_source { reader.new.source.ghost_name ≡ reader.old.source.ghost_name }
     ensures session { Adds D.alone (D.caller desk.old) (D.history desk.old) (D.history desk.new) (λ own.
-        Session (record { left = S.left reader.old.source.now; held = K.held sink.old; clock = C.moments clock.old; files = F.files folder.old }) (record { left = S.left reader.new.source.now; held = K.held sink.new; clock = C.moments clock.new; files = F.files folder.new }) own result) }
+        Session (record { left = S.left reader.old.source.now; held = K.held sink.old; clock = C.moments clock.old; shelf = shelf_of (F.files folder.old) (F.faults folder.old) }) (record { left = S.left reader.new.source.now; held = K.held sink.new; clock = C.moments clock.new; shelf = shelf_of (F.files folder.new) (F.faults folder.new) }) own result) }
     ensures caller { D.caller desk.new ≡ D.caller desk.old }
     ensures start { D.start desk.new ≡ D.start desk.old }
     ensures legal { Legal (D.start desk.old) (D.history desk.old) → Legal (D.start desk.new) (D.history desk.new) }
@@ -131,7 +131,7 @@ fn answer<K: Sink, D: Desk, F: Folder, C: Clock>(
     requires named { CameUnderItsName request }
     ensures emptied { OnOk result (writer.new ≡ []) }
     ensures answers { Adds D.alone (D.caller desk.old) (D.history desk.old) (D.history desk.new) (λ own.
-        Answers request own (C.moments clock.old) (C.moments clock.new) (F.files folder.old) (F.files folder.new) (K.held sink.old) (K.held sink.new) result) }
+        Answers request own (C.moments clock.old) (C.moments clock.new) (shelf_of (F.files folder.old) (F.faults folder.old)) (shelf_of (F.files folder.new) (F.faults folder.new)) (K.held sink.old) (K.held sink.new) result) }
     ensures caller { D.caller desk.new ≡ D.caller desk.old }
     ensures start { D.start desk.new ≡ D.start desk.old }
     ensures legal { Legal (D.start desk.old) (D.history desk.old) → Legal (D.start desk.new) (D.history desk.new) }

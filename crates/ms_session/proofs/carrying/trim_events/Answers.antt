@@ -6,11 +6,11 @@ use Rattle.ms_session.proofs.Dumping.{can_reply_trim, trim_answered, trimmed}
 use Rattle.ms_session.proofs.carrying.trim_events.Goals as goal
 
 pub returns-clause-carried : goal.returns-clause-carried
-returns-clause-carried g c = λ clock files.
+returns-clause-carried g c = λ clock shelf.
     let t = c.step.ensures.turns in
     let fits : SFits w64 c.args.upto = search rules in
     let same : to_z w64 (of_z w64 c.args.upto) ≡ c.args.upto = to_z-of_z w64 c.args.upto fits in
-    trimmed g.D.Desk.alone (g.D.Desk.caller c.args.desk.now) _ _ t.0 _ c.args.upto clock files c.reply_to_trim.result refl (ap Trim same) t.1 t.2 c.step.ensures.sole
+    trimmed g.D.Desk.alone (g.D.Desk.caller c.args.desk.now) _ _ t.0 _ c.args.upto clock shelf c.reply_to_trim.result refl (ap Trim same) t.1 t.2 c.step.ensures.sole
     (trim_answered (g.D.Desk.start c.step.new.self) _ t.0 _ _ c.args.upto (ap Trim same) t.2 c.step.ensures.legal) c.reply_to_trim.ensures
 
 pub returns-clause-can : goal.returns-clause-can
