@@ -50,7 +50,7 @@ none_both : (xs ys : List Entry) → NoCalls xs → NoCalls ys → NoCalls (xs +
 none_both [] ys one two = two
 none_both (x ∷ xs) ys one two = (one.0, none_both xs ys one.1 two)
 
-same_step : (a b : Step) → Some a ≡ Some b → a ≡ b
+pub same_step : (a b : Step) → Some a ≡ Some b → a ≡ b
 same_step a b is = cc
 
 at_place : (dump : ℕ) (place : Place) (s : Step) → step_at dump place ≡ Some s → IsNoCall s

@@ -6,3 +6,4 @@ pub mod Sessions
 pub mod Alone
 pub mod WholeTexts
 pub mod Coming
+pub mod Opened

@@ -27,20 +27,25 @@ needs (DumpEvents dump after) = Some dump
 needs (DumpEnd dump) = Some dump
 needs (Trim upto) = None
 
--- the number of the dump that an answer tells was begun
-abbrev pub begun_by : Answer → Option ℕ
-begun_by (answer.Began dump source born begin end first) = Some dump
-begun_by other = None
+-- the dump that a caller has opened after the answer to a step that begins one
+abbrev pub begun_by : Option ℕ → Answer → Option ℕ
+begun_by opened (answer.Began dump source born begin end first) = Some dump
+begun_by opened other = opened
 
--- the dump that a caller has opened after a step with this answer, where it had opened this one before it
+-- the dump that a caller has opened after the answer to a step that ends it
+abbrev pub ended_by : Option ℕ → Answer → Option ℕ
+ended_by opened answer.Ended = None
+ended_by opened other = opened
+
+-- the dump that a caller has opened after a step with this answer
 abbrev pub opened_after : Option ℕ → Step → Answer → Option ℕ
 opened_after opened (Client call moment) given = opened
-opened_after opened (DumpBegin db from to limit) given = begun_by given
+opened_after opened (DumpBegin db from to limit) given = begun_by opened given
 opened_after opened (DumpTable dump after) given = opened
 opened_after opened (DumpParts dump table born after) given = opened
 opened_after opened (DumpSeal dump) given = opened
 opened_after opened (DumpEvents dump after) given = opened
-opened_after opened (DumpEnd dump) given = None
+opened_after opened (DumpEnd dump) given = ended_by opened given
 opened_after opened (Trim upto) given = opened
 
 -- the dump that a caller has opened after these entries of its own
