@@ -1,0 +1,11 @@
+//! Replicas: what their objects are, how events are replayed on them, and what they stand for, as
+//! definitions and laws.
+#![tactic(auto)]
+
+mod laws;
+
+pub use laws::{
+    a_folder_goes_live, a_folder_may_stop, a_folder_stays_live, a_life_is_a_source,
+    a_live_event_keeps, a_live_folder_may_stop, an_event_keeps, bootstraps_go_live,
+    events_end_live, increments_stay_live,
+};
