@@ -16,8 +16,8 @@ use Rattle.dump_texts.proofs.Told.{event_texts_both, item_texts_both}
 use Rattle.hms_outside.specs.Told.{Goes as Leads}
 use Rattle.repl_dump.specs.Beginnings.{began_of, manifest_of}
 use Rattle.repl_dump.specs.Dumps.{SomeTold}
-use Rattle.repl_dump.specs.Endings.{EndsBroken, EndsDone, EndsSo, StandsBegun, WritesFiles, dir_of, failed_answer}
-use Rattle.repl_dump.specs.Files.{Files, Gained, HasPut, HasWritten, IsAmong, OthersStay, begun_of}
+use Rattle.repl_dump.specs.Endings.{EndsBroken, EndsDone, EndsSo, StandsBegun, StaysBy, WritesFiles, dir_of, failed_answer}
+use Rattle.repl_dump.specs.Files.{Files, Gained, HasPut, HasWritten, IsAmong, OthersStay, OutsideStays, begun_of}
 use Rattle.repl_dump.specs.Turns.{IsOwn, Stopped, ToldBy}
 use Rattle.repl_dump.specs.Walking.{Stands, Wrote, answers_of}
 use Rattle.repl_dump.specs.declared.beginning.Beginning.{Beginning}
@@ -45,6 +45,26 @@ leads_both dir (Some f) (Some g) (Some h) a b = stays_both dir f g h a b
 -- the same of an equal directory
 pub leads_as : (one dir : List ℕ) (old new : Option Files) → one ≡ dir → Leads (OthersStay one) old new → Leads (OthersStay dir) old new
 leads_as one dir old new is h = subst (λ (d : List ℕ). Leads (OthersStay d) old new) is h
+
+outside : (dir : List ℕ) (old new : Files) → OthersStay dir old new → OutsideStays dir old new
+outside dir old new h = λ name apart. h name (λ kind place. apart (name_at kind place))
+
+-- what stays while files are written stays after each failure
+pub stays_by : (failed : Failure) (dir : List ℕ) (old new : Option Files) → Leads (OthersStay dir) old new → Leads (StaysBy failed dir) old new
+stays_by (failure.Refused refusal) dir old new h = h
+stays_by failure.FolderFault dir None new h = tt
+stays_by failure.FolderFault dir (Some f) None h = h
+stays_by failure.FolderFault dir (Some f) (Some g) h = outside dir f g h
+stays_by failure.NoMemory dir old new h = h
+
+-- and so it does where the manifest is written after them
+pub stays_then : (failed : Failure) (dir : List ℕ) (old mid new : Option Files) → Leads (OthersStay dir) old mid → Leads (StaysBy failed dir) mid new → Leads (StaysBy failed dir) old new
+stays_then (failure.Refused refusal) dir old mid new a b = leads_both dir old mid new a b
+stays_then failure.FolderFault dir None mid new a b = tt
+stays_then failure.FolderFault dir (Some f) None new a b = absurd a
+stays_then failure.FolderFault dir (Some f) (Some g) None a b = b
+stays_then failure.FolderFault dir (Some f) (Some g) (Some h) a b = λ name apart. b name apart ∙ outside dir f g a name apart
+stays_then failure.NoMemory dir old mid new a b = leads_both dir old mid new a b
 
 -- ---- the first file
 
@@ -107,8 +127,8 @@ told_there : (refusal : _) (failed more : List Entry) → ToldBy (failure.Refuse
 told_there refusal [] more told = absurd told
 told_there refusal (x ∷ xs) more told = inl told
 
-pub broken_off : (began : Began) (failed : Failure) (own : List Entry) (ending : Entry) (old new : Option Files) → Stopped began.dump began.begin (place_begun began.begin began.first) failed own → Ends began ending → Leads (OthersStay (dir_of began)) old new
-    → EndsBroken began (own ++ ending ∷ []) old new
+broken_off : (began : Began) (failed : Failure) (own : List Entry) (ending : Entry) (old new : Option Files) → Stopped began.dump began.begin (place_begun began.begin began.first) failed own → Ends began ending
+    → Leads (StaysBy failed (dir_of began)) old new → EndsBroken (StaysBy failed) began (own ++ ending ∷ []) old new
 broken_off began failed own ending old new stopped ends others = record {
   place = stopped.place;
   walked = stopped.walked;
@@ -122,8 +142,8 @@ broken_off began failed own ending old new stopped ends others = record {
   others = others;
 }
 
-pub ends_stopped : (db : List ℕ) (began : Began) (failed : Failure) (own : List Entry) (ending : Entry) (old new : Option Files) → Stopped began.dump began.begin (place_begun began.begin began.first) failed own → Ends began ending → Leads (OthersStay (dir_of began)) old new
-    → EndsSo db began (failed_answer failed) old new (own ++ ending ∷ [])
+pub ends_stopped : (db : List ℕ) (began : Began) (failed : Failure) (own : List Entry) (ending : Entry) (old new : Option Files) → Stopped began.dump began.begin (place_begun began.begin began.first) failed own → Ends began ending
+    → Leads (StaysBy failed (dir_of began)) old new → EndsSo db began (failed_answer failed) old new (own ++ ending ∷ [])
 ends_stopped db began (failure.Refused refusal) own ending old new stopped ends others =
     (broken_off began (failure.Refused refusal) own ending old new stopped ends others,
      subst (λ (l : List Entry). SomeTold (answer.DumpRefused refusal) l) (sym (ap (λ (l : List Entry). l ++ ending ∷ []) stopped.is ∙ append_assoc stopped.walked stopped.failed (ending ∷ [])))
@@ -142,7 +162,7 @@ unwritten began failed own is goes = record { place = walk.end; walked = own; fa
     by failure.NoMemory own_one = tt
 
 pub ends_unwritten : (db : List ℕ) (began : Began) (failed : Failure) (own : List Entry) (ending : Entry) (old new : Option Files) → IsOwn failed → Goes began.dump began.begin (place_begun began.begin began.first) own walk.end → Ends began ending
-    → Leads (OthersStay (dir_of began)) old new → EndsSo db began (failed_answer failed) old new (own ++ ending ∷ [])
+    → Leads (StaysBy failed (dir_of began)) old new → EndsSo db began (failed_answer failed) old new (own ++ ending ∷ [])
 ends_unwritten db began failed own ending old new is goes ends others = ends_stopped db began failed own ending old new (unwritten began failed own is goes) ends others
 
 -- ---- the end of a whole dump

@@ -23,7 +23,7 @@ use Rattle.hms_outside.specs.Told.{Goes as Leads}
 use Rattle.repl_dump.specs.Beginnings.{AnswersBegin, Unbegins}
 use Rattle.repl_dump.specs.Dumps.{Dumps, IsBroken, LeavesFiles}
 use Rattle.repl_dump.specs.Endings.{EndsBroken, EndsSo}
-use Rattle.repl_dump.specs.Files.{Files, OthersStay}
+use Rattle.repl_dump.specs.Files.{Files, OthersStay, OutsideStays}
 use Rattle.repl_dump.specs.Opened.{Takes, allows}
 use Rattle.repl_dump.specs.declared.dumping.DumpAnswer.{DumpAnswer}
 use Rattle.repl_dump.specs.declared.dumping.DumpAnswer.TheVariants as dumped
@@ -122,8 +122,8 @@ same_dir db began other given is its =
     let dump : began.dump ≡ other.dump = cc in
     ap (λ (s : List ℕ). dir_text s began.dump) source ∙ ap (λ (n : ℕ). dir_text other.source n) dump
 
-is_broken : (wanted : Wanted) (began : Began) (first : Entry) (old new : Option Files) (own : List Entry) → first.0.step ≡ begin_step wanted → first.1.answer ≡ began_answer began → EndsBroken began own old new → IsBroken wanted (first ∷ own) old new
-is_broken wanted began first old new own step told ends = record {
+is_broken : (stays : List ℕ → Files → Files → Type 0) (wanted : Wanted) (began : Began) (first : Entry) (old new : Option Files) (own : List Entry) → first.0.step ≡ begin_step wanted → first.1.answer ≡ began_answer began → EndsBroken stays began own old new → IsBroken stays wanted (first ∷ own) old new
+is_broken stays wanted began first old new own step told ends = record {
   run = walk.broken began (record {
     place = ends.place;
     walked = first ∷ ends.walked;
@@ -137,7 +137,7 @@ is_broken wanted began first old new own step told ends = record {
   });
   files = record {
     unbegun = λ none. absurd (none began told);
-    begun = λ other its. subst (λ (d : List ℕ). Leads (OthersStay d) old new) (same_dir (lower wanted.db) began other first.1.answer told its) ends.others;
+    begun = λ other its. subst (λ (d : List ℕ). Leads (stays d) old new) (same_dir (lower wanted.db) began other first.1.answer told its) ends.others;
   };
 }
 
@@ -150,30 +150,30 @@ dumps_whole wanted began first (dumped.Done dir last) old new own step told ends
   last_is = ends.last_is;
   text = ends.text;
 }
-dumps_whole wanted began first (dumped.Refused refusal) old new own step told ends = (is_broken wanted began first old new own step told ends.0, inr ends.1)
-dumps_whole wanted began first dumped.FolderFault old new own step told ends = is_broken wanted began first old new own step told ends
+dumps_whole wanted began first (dumped.Refused refusal) old new own step told ends = (is_broken OthersStay wanted began first old new own step told ends.0, inr ends.1)
+dumps_whole wanted began first dumped.FolderFault old new own step told ends = is_broken OutsideStays wanted began first old new own step told ends
 dumps_whole wanted began first dumped.StoreFault old new own step told ends = absurd ends
-dumps_whole wanted began first dumped.NoMemory old new own step told ends = inr (is_broken wanted began first old new own step told ends)
+dumps_whole wanted began first dumped.NoMemory old new own step told ends = inr (is_broken OthersStay wanted began first old new own step told ends)
 
 -- an answer that begins none
-none_begun : (wanted : Wanted) (first : Entry) (files : Option Files) → first.0.step ≡ begin_step wanted → ((began : Began) → first.1.answer ≢ began_answer began) → IsBroken wanted (first ∷ []) files files
-none_begun wanted first files step none = record {
+none_begun : (stays : List ℕ → Files → Files → Type 0) (wanted : Wanted) (first : Entry) (files : Option Files) → first.0.step ≡ begin_step wanted → ((began : Began) → first.1.answer ≢ began_answer began) → IsBroken stays wanted (first ∷ []) files files
+none_begun stays wanted first files step none = record {
   run = walk.unbegun (record { beginning = first; is = refl; step = step; answer = none });
   files = record { unbegun = λ not. refl; begun = λ began told. absurd (none began told) };
 }
 
 pub dumps_unbegun : (wanted : Wanted) (first : Entry) (result : DumpAnswer) (files : Option Files) → first.0.step ≡ begin_step wanted → Unbegins result first.1.answer → Dumps wanted result files files (first ∷ [])
 dumps_unbegun wanted first (dumped.Done dir last) files step told = absurd told
-dumps_unbegun wanted first (dumped.Refused refusal) files step told = (none_begun wanted first files step (λ began is. absurd (refused_apart refusal began (sym told ∙ is))), inl told)
+dumps_unbegun wanted first (dumped.Refused refusal) files step told = (none_begun OthersStay wanted first files step (λ began is. absurd (refused_apart refusal began (sym told ∙ is))), inl told)
   where
     refused_apart : (r : DumpRefusal) (b : Began) → answer.DumpRefused r ≡ began_answer b → ⊥
     refused_apart r b q = absurd cc
 dumps_unbegun wanted first dumped.FolderFault files step told = absurd told
-dumps_unbegun wanted first dumped.StoreFault files step told = (none_begun wanted first files step (λ began is. absurd (fault_apart began (sym told ∙ is))), told)
+dumps_unbegun wanted first dumped.StoreFault files step told = (none_begun OthersStay wanted first files step (λ began is. absurd (fault_apart began (sym told ∙ is))), told)
   where
     fault_apart : (b : Began) → answer.StoreFault ≡ began_answer b → ⊥
     fault_apart b q = absurd cc
-dumps_unbegun wanted first dumped.NoMemory files step told = inr (none_begun wanted first files step (λ began is. absurd (memory_apart began (sym told ∙ is))))
+dumps_unbegun wanted first dumped.NoMemory files step told = inr (none_begun OthersStay wanted first files step (λ began is. absurd (memory_apart began (sym told ∙ is))))
   where
     memory_apart : (b : Began) → answer.NoMemory ≡ began_answer b → ⊥
     memory_apart b q = absurd cc

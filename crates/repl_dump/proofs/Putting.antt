@@ -13,7 +13,6 @@ use Rattle.std.proofs.lemmas.Map.Text.{is_eq-slice_cmp}
 use Rattle.std.proofs.lemmas.Map.Lookups.{exact_bytes}
 use Rattle.hms_outside.specs.Folders.{file}
 use Rattle.repl_dump.specs.Files.{Files, Gained, IsAmong, OthersStay}
-use Rattle.dump_texts.specs.Texts.{path_in}
 
 same_name : (name : List ℕ) → is_eq (slice_cmp nat_cmp name name) ≡ true
 same_name name = is_eq-slice_cmp name name ∙ (bytes_eq-Decides name name).1 refl
@@ -84,15 +83,6 @@ gained_more texts old mid new name bytes before one apart = record {
     kept : (ts : Files) → (IsAmong name ts → ⊥) → AllByRecursion (λ entry. file mid entry.0 ≡ Some entry.1) ts → AllByRecursion (λ entry. file new entry.0 ≡ Some entry.1) (ts ++ (name, bytes) ∷ [])
     kept [] unlike all = one.each
     kept (t ∷ ts) unlike all = (one.others t.0 (differs t.0 (λ q. unlike (inl q))) ∙ all.0, kept ts (λ is. unlike (inr is)) all.1)
-
--- files of one directory leave all others
-pub gained_stays : (dir : List ℕ) (texts old new : Files) → AllByRecursion (λ entry. (rest : List ℕ) × (entry.0 ≡ path_in dir rest)) texts → Gained texts old new → OthersStay dir old new
-gained_stays dir texts old new within gained = λ name outside. gained.others name (λ is. not_among texts name within outside is)
-  where
-    not_among : (ts : Files) (name : List ℕ) → AllByRecursion (λ entry. (rest : List ℕ) × (entry.0 ≡ path_in dir rest)) ts → ((rest : List ℕ) → name ≡ path_in dir rest → ⊥) → IsAmong name ts → ⊥
-    not_among [] name all outside is = is
-    not_among (t ∷ ts) name all outside (inl here) = outside all.0.0 (here ∙ all.0.1)
-    not_among (t ∷ ts) name all outside (inr later) = not_among ts name all.1 outside later
 
 pub stays_both : (dir : List ℕ) (old mid new : Files) → OthersStay dir old mid → OthersStay dir mid new → OthersStay dir old new
 stays_both dir old mid new a b = λ name outside. b name outside ∙ a name outside

@@ -12,7 +12,8 @@ use Rattle.cat_types.specs.declared.steps.Answer.TheVariants as answer
 use Rattle.desk.specs.Walks.{Place, done, last_number, last_values}
 use Rattle.desk.specs.Walks as walk
 use Rattle.dump_manifest.specs.declared.manifest.FileLine.{FileLine}
-use Rattle.dump_texts.specs.Texts.{at_path, events_text, items_text, line_of, path_in}
+use Rattle.dump_texts.specs.Texts.{at_path, events_text, items_text, line_of, name_at, path_in}
+use Rattle.dump_texts.specs.declared.kinds.FileKind.{FileKind}
 use Rattle.dump_texts.specs.declared.kinds.FileKind.TheVariants.{EventFile, ItemFile}
 use Rattle.hms_outside.specs.Folders.{file}
 use Rattle.hms_outside.specs.Told.{Goes}
@@ -32,11 +33,11 @@ put_text dir entry path bytes (Some f) None p d h = h
 put_text dir entry path bytes (Some f) (Some g) p d h =
     gained_one f g (path_in dir entry.0) entry.1 (h ∙ (ap (λ n. insert_entry (slice_cmp nat_cmp) f n bytes) p ∙ ap (λ b. insert_entry (slice_cmp nat_cmp) f (path_in dir entry.0) b) d))
 
-pub put_stays : (dir name path bytes : List ℕ) (before after : Option Files) → path ≡ path_in dir name
+pub put_stays : (dir : List ℕ) (kind : FileKind) (place : ℕ) (path bytes : List ℕ) (before after : Option Files) → path ≡ path_in dir (name_at kind place)
     → Goes (λ files later. later ≡ insert_entry (slice_cmp nat_cmp) files path bytes) before after → Goes (OthersStay dir) before after
-put_stays dir name path bytes None after p h = tt
-put_stays dir name path bytes (Some f) None p h = h
-put_stays dir name path bytes (Some f) (Some g) p h = λ other outside. ap (λ (files : Files). file files other) h ∙ put_others f path bytes other (λ q. outside name (q ∙ p))
+put_stays dir kind place path bytes None after p h = tt
+put_stays dir kind place path bytes (Some f) None p h = h
+put_stays dir kind place path bytes (Some f) (Some g) p h = λ other apart. ap (λ (files : Files). file files other) h ∙ put_others f path bytes other (λ q. apart kind place (q ∙ p))
 
 pub same_line : (files new : List FileLine) (name bytes its all : List ℕ) → name ≡ its → bytes ≡ all → new ≡ files ++ line_of (name, bytes) ∷ [] → new ≡ files ++ line_of (its, all) ∷ []
 same_line files new name bytes its all p d h = h ∙ (ap (λ n. files ++ line_of (n, bytes) ∷ []) p ∙ ap (λ b. files ++ line_of (its, b) ∷ []) d)

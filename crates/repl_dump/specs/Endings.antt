@@ -9,7 +9,7 @@ use Rattle.desk.specs.Walks as walk
 use Rattle.dump_texts.specs.Texts.{dump_dir, dump_text, end_told}
 use Rattle.hms_outside.specs.Told.{Goes as Leads}
 use Rattle.repl_dump.specs.Dumps.{SomeTold}
-use Rattle.repl_dump.specs.Files.{Files, Gained, OthersStay, begun_of}
+use Rattle.repl_dump.specs.Files.{Files, Gained, OthersStay, OutsideStays, begun_of}
 use Rattle.repl_dump.specs.Turns.{Stopped}
 use Rattle.repl_dump.specs.Walking.{Stands, answers_of}
 use Rattle.repl_dump.specs.declared.dumping.DumpAnswer.{DumpAnswer}
@@ -45,8 +45,14 @@ pub record EndsDone (db : List ℕ) (began : Began) (dir : List ℕ) (last : ℕ
   pub last_is : last ≡ end_told began.end (answers_of own)
   pub text : Leads (Gained (dump_text (begun_of db began) (answers_of own))) old new
 
--- a dump was broken off after its beginning, and ended; files outside its directory stayed
-pub record EndsBroken (began : Began) (own : List Entry) (old new : Option Files) : Type 0 where
+-- which files stay after a failure: all but the dump's with items and events; after a fault of the folder those outside its directory
+abbrev pub StaysBy : Failure → (List ℕ → Files → Files → Type 0)
+StaysBy (failure.Refused refusal) = OthersStay
+StaysBy failure.FolderFault = OutsideStays
+StaysBy failure.NoMemory = OthersStay
+
+-- a dump was broken off after its beginning, and ended; and so files stayed
+pub record EndsBroken (stays : List ℕ → Files → Files → Type 0) (began : Began) (own : List Entry) (old new : Option Files) : Type 0 where
   pub place : Place
   pub walked : List Entry
   pub failed : List Entry
@@ -56,12 +62,12 @@ pub record EndsBroken (began : Began) (own : List Entry) (old new : Option Files
   pub before_end : place ≢ done
   pub fails : MayFail began.dump place failed
   pub ends : (ending.0.step ≡ DumpEnd began.dump) × (ending.1.answer ≡ answer.Ended)
-  pub others : Leads (OthersStay (dir_of began)) old new
+  pub others : Leads (stays (dir_of began)) old new
 
 -- how a dump of this database that was begun is answered after these entries: it ended well, or was broken off, by the refusal that is told
 abbrev pub EndsSo : List ℕ → Began → DumpAnswer → Option Files → Option Files → List Entry → Type 0
 EndsSo db began (dumped.Done dir last) old new own = EndsDone db began dir last own old new
-EndsSo db began (dumped.Refused refusal) old new own = EndsBroken began own old new × SomeTold (answer.DumpRefused refusal) own
-EndsSo db began dumped.FolderFault old new own = EndsBroken began own old new
+EndsSo db began (dumped.Refused refusal) old new own = EndsBroken OthersStay began own old new × SomeTold (answer.DumpRefused refusal) own
+EndsSo db began dumped.FolderFault old new own = EndsBroken OutsideStays began own old new
 EndsSo db began dumped.StoreFault old new own = ⊥
-EndsSo db began dumped.NoMemory old new own = EndsBroken began own old new
+EndsSo db began dumped.NoMemory old new own = EndsBroken OthersStay began own old new

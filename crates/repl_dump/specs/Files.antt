@@ -44,9 +44,13 @@ events_in EventFile = 1
 abbrev pub next_file : FileKind → List ℕ → Writer → List ℕ × List ℕ
 next_file kind bytes writer = (name_at kind (written_of kind writer), bytes)
 
--- no file outside a directory changed
+-- no file changed but those with items or events in a directory; a manifest stays too
 abbrev pub OthersStay : List ℕ → Files → Files → Type 0
-OthersStay dir old new = (name : List ℕ) → ((rest : List ℕ) → name ≢ path_in dir rest) → file new name ≡ file old name
+OthersStay dir old new = (name : List ℕ) → ((kind : FileKind) (place : ℕ) → name ≢ path_in dir (name_at kind place)) → file new name ≡ file old name
+
+-- no file outside a directory changed
+abbrev pub OutsideStays : List ℕ → Files → Files → Type 0
+OutsideStays dir old new = (name : List ℕ) → ((rest : List ℕ) → name ≢ path_in dir rest) → file new name ≡ file old name
 
 -- whether a name is one of these files'
 abbrev pub IsAmong : List ℕ → Files → Type 0

@@ -9,7 +9,7 @@ ghost use Rattle.dump_texts.specs.Texts.{path_in};
 ghost use Rattle.hms_outside.specs.Causes.{Rose};
 ghost use Rattle.hms_outside.specs.Told.{Goes};
 ghost use Rattle.repl_dump.specs.Beginnings.{began_of, manifest_of};
-ghost use Rattle.repl_dump.specs.Endings.{EndsSo, StandsBegun, WritesFiles, dir_of, failed_answer};
+ghost use Rattle.repl_dump.specs.Endings.{EndsSo, StandsBegun, StaysBy, WritesFiles, dir_of, failed_answer};
 ghost use Rattle.repl_dump.specs.Files.{Gained, OthersStay};
 ghost use Rattle.repl_dump.specs.Opened.{Takes, allows, any_kind};
 ghost use Rattle.repl_dump.specs.Turns.{IsOwn, place_of};
@@ -127,7 +127,7 @@ fn write_manifest<F: Folder>(
     ensures later { F.faults folder.old ≤ F.faults folder.new }
     ensures cause { IsErrOf result Failure.FolderFault → Rose (F.faults folder.old) (F.faults folder.new) }
     ensures own { IfErr result IsOwn }
-    ensures stays { Goes (OthersStay writer.dir) (F.files folder.old) (F.files folder.new) }
+    ensures stays { IfErr result (λ failure. Goes (StaysBy failure writer.dir) (F.files folder.old) (F.files folder.new)) }
     ensures done { IfOk result (λ answer. answer ≡ dumped.Done writer.dir writer.end) }
     ensures put { OnOk result (Goes (Gained ((path_in writer.dir (codes "manifest"), manifest_code (manifest_of db.now beginning.now writer)) ∷ [])) (F.files folder.old) (F.files folder.new)) }
 {

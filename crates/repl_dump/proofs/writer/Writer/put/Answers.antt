@@ -1,5 +1,5 @@
 use Rattle.std.proofs.Common.{◌∙◌}
-use Rattle.repl_dump.specs.Files.{next_file}
+use Rattle.repl_dump.specs.Files.{next_file, written_of}
 use Rattle.repl_dump.proofs.Writing.{put_stays, put_text, same_line}
 use Rattle.repl_dump.proofs.writer.Writer.put.Goals as goal
 
@@ -14,7 +14,7 @@ returns-in-Ok-add-clause-put g c = record {
 }
 
 pub returns-in-Ok-add-clause-stays : goal.returns-in-Ok-add-clause-stays
-returns-in-Ok-add-clause-stays g c = put_stays _ _ _ _ _ _ (c.as_str.ensures.bytes ∙ c.in-Ok.ensures.path) c.in_ok-put.ensures.files
+returns-in-Ok-add-clause-stays g c = put_stays c.args.self.now.dir c.args.kind (written_of c.args.kind c.args.self.now) _ _ _ _ (c.as_str.ensures.bytes ∙ c.in-Ok.ensures.path) c.in_ok-put.ensures.files
 
 pub returns-clause-stays : goal.returns-clause-stays
-returns-clause-stays g c = put_stays _ _ _ _ _ _ (c.as_str.ensures.bytes ∙ c.in-Ok.ensures.path) c.in_ok-put.ensures.files
+returns-clause-stays g c = put_stays c.args.self.now.dir c.args.kind (written_of c.args.kind c.args.self.now) _ _ _ _ (c.as_str.ensures.bytes ∙ c.in-Ok.ensures.path) c.in_ok-put.ensures.files
