@@ -21,12 +21,13 @@ use Rattle.dump_steps.specs.declared.open_dumps.OpenDump.{OpenDump}
 use Rattle.dump_steps.specs.declared.ranges.Asked.{Asked}
 use Rattle.hms_outside.specs.Told.{Goes as Leads}
 use Rattle.repl_dump.specs.Beginnings.{AnswersBegin, Unbegins}
-use Rattle.repl_dump.specs.Dumps.{Dumps, IsBroken, LeavesFiles}
+use Rattle.repl_dump.specs.Dumps.{Dumps, IsBroken, LeavesFiles, NoneTold}
 use Rattle.repl_dump.specs.Endings.{EndsBroken, EndsSo}
 use Rattle.repl_dump.specs.Files.{Files, OthersStay, OutsideStays}
 use Rattle.repl_dump.specs.Opened.{Takes, allows}
 use Rattle.repl_dump.specs.declared.dumping.DumpAnswer.{DumpAnswer}
 use Rattle.repl_dump.specs.declared.dumping.DumpAnswer.TheVariants as dumped
+use Rattle.repl_dump.proofs.NotOpen.{began_apart, ends_open}
 use Rattle.repl_dump.proofs.Staying.{last_follows, point_on}
 use Rattle.repl_dump.proofs.Turning.{entry_of}
 
@@ -122,6 +123,9 @@ same_dir db began other given is its =
     let dump : began.dump ≡ other.dump = cc in
     ap (λ (s : List ℕ). dir_text s began.dump) source ∙ ap (λ (n : ℕ). dir_text other.source n) dump
 
+broken_open : {stays : List ℕ → Files → Files → Type 0} (began : Began) (first : Entry) (own : List Entry) {old new : Option Files} → first.1.answer ≡ began_answer began → EndsBroken stays began own old new → NoneTold answer.NotOpen (first ∷ own)
+broken_open began first own told ends = (λ q. began_apart began (sym told ∙ q), ends_open began.dump began.begin (place_begun began.begin began.first) ends.place own ends.walked ends.failed ends.ending ends.is ends.goes ends.fails ends.ends.1)
+
 is_broken : (stays : List ℕ → Files → Files → Type 0) (wanted : Wanted) (began : Began) (first : Entry) (old new : Option Files) (own : List Entry) → first.0.step ≡ begin_step wanted → first.1.answer ≡ began_answer began → EndsBroken stays began own old new → IsBroken stays wanted (first ∷ own) old new
 is_broken stays wanted began first old new own step told ends = record {
   run = walk.broken began (record {
@@ -135,6 +139,7 @@ is_broken stays wanted began first old new own step told ends = record {
     fails = ends.fails;
     ends = ends.ends;
   });
+  stays_open = broken_open began first own told ends;
   files = record {
     unbegun = λ none. absurd (none began told);
     begun = λ other its. subst (λ (d : List ℕ). Leads (stays d) old new) (same_dir (lower wanted.db) began other first.1.answer told its) ends.others;
@@ -156,24 +161,31 @@ dumps_whole wanted began first dumped.StoreFault old new own step told ends = ab
 dumps_whole wanted began first dumped.NoMemory old new own step told ends = inr (is_broken OthersStay wanted began first old new own step told ends)
 
 -- an answer that begins none
-none_begun : (stays : List ℕ → Files → Files → Type 0) (wanted : Wanted) (first : Entry) (files : Option Files) → first.0.step ≡ begin_step wanted → ((began : Began) → first.1.answer ≢ began_answer began) → IsBroken stays wanted (first ∷ []) files files
-none_begun stays wanted first files step none = record {
+none_begun : (stays : List ℕ → Files → Files → Type 0) (wanted : Wanted) (first : Entry) (files : Option Files) → first.0.step ≡ begin_step wanted → ((began : Began) → first.1.answer ≢ began_answer began) → first.1.answer ≢ answer.NotOpen → IsBroken stays wanted (first ∷ []) files files
+none_begun stays wanted first files step none opened = record {
   run = walk.unbegun (record { beginning = first; is = refl; step = step; answer = none });
+  stays_open = (opened, tt);
   files = record { unbegun = λ not. refl; begun = λ began told. absurd (none began told) };
 }
 
 pub dumps_unbegun : (wanted : Wanted) (first : Entry) (result : DumpAnswer) (files : Option Files) → first.0.step ≡ begin_step wanted → Unbegins result first.1.answer → Dumps wanted result files files (first ∷ [])
 dumps_unbegun wanted first (dumped.Done dir last) files step told = absurd told
-dumps_unbegun wanted first (dumped.Refused refusal) files step told = (none_begun OthersStay wanted first files step (λ began is. absurd (refused_apart refusal began (sym told ∙ is))), inl told)
+dumps_unbegun wanted first (dumped.Refused refusal) files step told = (none_begun OthersStay wanted first files step (λ began is. absurd (refused_apart refusal began (sym told ∙ is))) (λ q. closed refusal (sym told ∙ q)), inl told)
   where
     refused_apart : (r : DumpRefusal) (b : Began) → answer.DumpRefused r ≡ began_answer b → ⊥
     refused_apart r b q = absurd cc
+    closed : (r : DumpRefusal) → answer.DumpRefused r ≡ answer.NotOpen → ⊥
+    closed r q = absurd cc
 dumps_unbegun wanted first dumped.FolderFault files step told = absurd told
-dumps_unbegun wanted first dumped.StoreFault files step told = (none_begun OthersStay wanted first files step (λ began is. absurd (fault_apart began (sym told ∙ is))), told)
+dumps_unbegun wanted first dumped.StoreFault files step told = (none_begun OthersStay wanted first files step (λ began is. absurd (fault_apart began (sym told ∙ is))) (λ q. closed (sym told ∙ q)), told)
   where
     fault_apart : (b : Began) → answer.StoreFault ≡ began_answer b → ⊥
     fault_apart b q = absurd cc
-dumps_unbegun wanted first dumped.NoMemory files step told = inr (none_begun OthersStay wanted first files step (λ began is. absurd (memory_apart began (sym told ∙ is))))
+    closed : answer.StoreFault ≡ answer.NotOpen → ⊥
+    closed q = absurd cc
+dumps_unbegun wanted first dumped.NoMemory files step told = inr (none_begun OthersStay wanted first files step (λ began is. absurd (memory_apart began (sym told ∙ is))) (λ q. closed (sym told ∙ q)))
   where
     memory_apart : (b : Began) → answer.NoMemory ≡ began_answer b → ⊥
     memory_apart b q = absurd cc
+    closed : answer.NoMemory ≡ answer.NotOpen → ⊥
+    closed q = absurd cc

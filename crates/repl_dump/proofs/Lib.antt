@@ -11,4 +11,5 @@ pub mod Turning
 pub mod Stopping
 pub mod Nearing
 pub mod Ending
+pub mod NotOpen
 pub mod Joining

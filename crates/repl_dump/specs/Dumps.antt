@@ -1,5 +1,5 @@
 -- What a dump does.
-use Rattle.std.specs.Prelude.{◌≡◌, ◌⊎◌, ℕ, List, [], ◌∷◌, Option}
+use Rattle.std.specs.Prelude.{◌≡◌, ◌≢◌, ◌⊎◌, ℕ, List, [], ◌∷◌, Option}
 use Rattle.cat_types.specs.declared.steps.Answer.{Answer}
 use Rattle.cat_types.specs.declared.steps.Answer.TheVariants as answer
 use Rattle.cat_values.specs.Names.{lower}
@@ -27,6 +27,11 @@ abbrev pub SomeTold : Answer → List Entry → Type 0
 SomeTold given [] = ⊥
 SomeTold given (entry ∷ entries) = (entry.1.answer ≡ given) ⊎ SomeTold given entries
 
+-- none of these entries was answered so
+abbrev pub NoneTold : Answer → List Entry → Type 0
+NoneTold given [] = Unit {0}
+NoneTold given (entry ∷ entries) = (entry.1.answer ≢ given) × NoneTold given entries
+
 -- what a finished dump did: its entries are a whole walk, its directory and its end are told, and the folder gained its text
 pub record IsDone (wanted : Wanted) (dir : List ℕ) (last : ℕ) (own : List Entry) (old new : Option Files) : Type 0 where
   pub began : Began
@@ -40,9 +45,10 @@ pub record LeavesFiles (stays : List ℕ → Files → Files → Type 0) (wanted
   pub unbegun : ((began : Began) → FirstTold (began_answer began) own → ⊥) → new ≡ old
   pub begun : (began : Began) → FirstTold (began_answer began) own → Leads (stays (dump_dir (begun_of (lower wanted.db) began))) old new
 
--- the entries of a dump that wasn't finished, and what it leaves
+-- the entries of a dump that wasn't finished, none of which was answered that no dump is open, and what it leaves
 pub record IsBroken (stays : List ℕ → Files → Files → Type 0) (wanted : Wanted) (own : List Entry) (old new : Option Files) : Type 0 where
   pub run : DumpRun wanted own
+  pub stays_open : NoneTold answer.NotOpen own
   pub files : LeavesFiles stays wanted own old new
 
 -- what a dump does that is answered so: it is done; or its entries are a dump's, with the refusal or the fault that is told among their answers; only for want of memory there may be none. No manifest is there that wasn't before, unless the folder failed

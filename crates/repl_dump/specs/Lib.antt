@@ -6,3 +6,4 @@ pub mod Walking
 pub mod Beginnings
 pub mod Dumps
 pub mod Endings
+pub mod Laws

@@ -8,10 +8,12 @@ mod beginning;
 mod begun_dump;
 mod dumping;
 mod failure;
+mod laws;
 mod place;
 mod refusals;
 mod walking;
 mod writer;
 
 pub use dumping::{DumpAnswer, dump};
+pub use laws::dumps_stay_open;
 pub use refusals::refusal_text;
