@@ -7,3 +7,4 @@ pub mod Alone
 pub mod WholeTexts
 pub mod Coming
 pub mod Opened
+pub mod FolderFaults

@@ -1,6 +1,9 @@
 -- What follows from the session relation for dumps.
-use Rattle.std.specs.Prelude.{◌≡◌, ◌≢◌, ⊤, ℕ, List, [], ◌∷◌, ◌++◌, Option, None, Some}
-use Rattle.std.specs.List.{AllByRecursion}
+use Rattle.std.specs.Prelude.{◌≡◌, ◌≢◌, ◌≤◌, ◌==◌, ◌&&◌, ⊤, ℕ, ◌+◌, ◌-◌, ◌^◌, min, Bool, true, false, List, [], ◌∷◌, ◌++◌, length, codes, Option, None, Some}
+use Rattle.std.specs.List.{AllByRecursion, filter}
+use Rattle.std.specs.Str.{bytes_eq}
+use Rattle.cat_types.specs.declared.replies.Reply.{Reply}
+use Rattle.cat_types.specs.declared.replies.Reply.TheVariants.{Refused}
 use Rattle.cat_types.specs.declared.steps.Answer.{Answer}
 use Rattle.cat_types.specs.declared.steps.Answer.TheVariants as answer
 use Rattle.cat_types.specs.declared.steps.Step.{Step}
@@ -89,3 +92,24 @@ IsNoDump ask.Shutdown = ⊤
 abbrev pub OnlyDumpsChangeFiles : Type 0
 OnlyDumpsChangeFiles = (turns : List Turn) (bytes : List ℕ) (clock clock' : Option (List ℕ)) (shelf shelf' : Shelf) (entries : List Entry)
     → Carried turns bytes clock clock' shelf shelf' entries → AllByRecursion (λ turn. IsNoDump (asks turn.message) → turn.after ≡ turn.before) turns
+
+-- ---- faults of the folder are counted
+
+-- whether a message asks for a dump
+abbrev pub asks_dump : Asked → Bool
+asks_dump (ask.Dump db from to limit) = true
+asks_dump other = false
+
+-- whether a reply tells that the folder failed
+abbrev pub tells_folder_fault : Reply → Bool
+tells_folder_fault (Refused number text) = (number == 14) && bytes_eq text (codes "dump refused: folder fault")
+tells_folder_fault other = false
+
+-- the dumps that were answered so
+abbrev pub folder_faults : List Turn → List Turn
+folder_faults turns = filter (λ turn. asks_dump (asks turn.message) && tells_folder_fault turn.reply) turns
+
+-- the folder's count of faults rose for each dump of a session that is answered by a fault of the folder, up to the last value of u64
+abbrev pub FolderFaultsAreCounted : Type 0
+FolderFaultsAreCounted = (turns : List Turn) (bytes : List ℕ) (clock clock' : Option (List ℕ)) (shelf shelf' : Shelf) (entries : List Entry)
+    → Carried turns bytes clock clock' shelf shelf' entries → min (shelf.faults + length (folder_faults turns)) (2 ^ 64 - 1) ≤ shelf'.faults

@@ -1,6 +1,6 @@
 //! Laws of sessions, each the contract of a function that does nothing.
 
-ghost use Rattle.ms_session.specs.DumpLaws.{OnlyDumpsChangeFiles, StepsAreOpened};
+ghost use Rattle.ms_session.specs.DumpLaws.{FolderFaultsAreCounted, OnlyDumpsChangeFiles, StepsAreOpened};
 ghost use Rattle.ms_session.specs.Laws.{AloneListsDefault, WholeTextsAreServed};
 
 /// Each whole message of a text is answered, up to one that asks for the end of the session, and the
@@ -24,4 +24,10 @@ pub fn steps_are_opened()
 /// A message that asks for no dump leaves the folder as it was, with its count of faults.
 pub fn only_dumps_change_files()
     ensures { OnlyDumpsChangeFiles }
+{}
+
+/// The folder's count of faults rose for each dump that is answered by a fault of the folder, up to the
+/// last value that it can have.
+pub fn folder_faults_are_counted()
+    ensures { FolderFaultsAreCounted }
 {}

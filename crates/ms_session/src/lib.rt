@@ -12,7 +12,8 @@ mod session;
 
 pub use end::End;
 pub use laws::{
-    alone_lists_default, only_dumps_change_files, steps_are_opened, whole_texts_are_served,
+    alone_lists_default, folder_faults_are_counted, only_dumps_change_files, steps_are_opened,
+    whole_texts_are_served,
 };
 pub use request::Request;
 pub use session::serve_session;
