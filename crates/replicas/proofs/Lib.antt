@@ -16,3 +16,7 @@ pub mod Filtered
 pub mod WholeFolders
 pub mod Stopped
 pub mod Present
+pub mod Untouched
+pub mod Keeping
+pub mod Repeats
+pub mod Growing

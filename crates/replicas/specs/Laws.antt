@@ -1,11 +1,13 @@
 -- The laws on replayed events.
 use Rattle.std.specs.Prelude.{◌≡◌, ℕ, ◌<◌, ◌≤◌, Bool, true, List, [], ◌++◌, filter}
+use Rattle.std.specs.List.{AllByRecursion}
 use Rattle.cat_types.specs.declared.changes.Change.{Change}
 use Rattle.cat_types.specs.declared.changes.Event.{Event}
 use Rattle.cat_types.specs.declared.changes.Op.{Op}
-use Rattle.replicas.specs.Objects.{Name, Objects, Replica}
+use Rattle.replicas.specs.Objects.{Name, Objects, Replica, SameMarks, SameObjects}
+use Rattle.replicas.specs.Keeping.{IsRooted, KeepsNewer, MarksGrow}
 use Rattle.replicas.specs.Life.{HasDb, Life, ops_of, AreNumbered, is_of, is_above}
-use Rattle.replicas.specs.Source.{Source, NoMoves}
+use Rattle.replicas.specs.Source.{AllApart, Source, NoMoves}
 use Rattle.replicas.specs.Stands.{StandsEvents, StandsLive, ReplaysAll, ReplaysEvents, Quiet, AreEvents, reached}
 
 -- what is asked of an operation alone, whatever stands: names, columns and values by their rules
@@ -74,3 +76,17 @@ IncrementsStayLive = (test : Op → Bool) (w : Name) (seen : ℕ → Objects) (c
     → Life (Passes test) w seen changes base newest → base ≤ begin → begin ≤ at → at ≤ end → end ≤ newest → HasDb b (seen begin) → HasDb b (seen end)
     → AreNumbered changes begin end events
     → ReplaysEvents (Passes test) (filter (is_above at) (filter (is_of w b) events)) r r' → StandsLive seen at r → StandsLive seen end r'
+
+-- ---- marks
+
+-- events with numbers up to k leave all that has a mark of k or above
+abbrev pub ReplayNeverGoesBack : Type 0
+ReplayNeverGoesBack = (test : Op → Bool) (k : ℕ) (events : List Event) (r r' : Replica) → AllByRecursion (λ (e : Event). e.id ≤ k) events → ReplaysEvents (Passes test) events r r' → KeepsNewer k r r'
+
+-- an event whose operations are apart, replayed again at once, has no effect
+abbrev pub RepeatedReplaysDoNothing : Type 0
+RepeatedReplaysDoNothing = (test : Op → Bool) (e : ℕ) (ops : List Op) (r q q' : Replica) → AllApart ops → ReplaysAll (Passes test) e ops r q → ReplaysAll (Passes test) e ops q q' → SameObjects q.objects q'.objects × SameMarks q.marks q'.marks
+
+-- where each partition stands under a table, no mark falls by an event whose operations are apart, and each partition still stands under a table
+abbrev pub MarksNeverFall : Type 0
+MarksNeverFall = (test : Op → Bool) (e : ℕ) (ops : List Op) (r r' : Replica) → AllApart ops → IsRooted r.objects → ReplaysAll (Passes test) e ops r r' → MarksGrow r r' × IsRooted r'.objects

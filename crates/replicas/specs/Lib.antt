@@ -2,6 +2,7 @@ pub mod Objects
 pub mod Operations
 pub mod Replay
 pub mod Source
+pub mod Keeping
 pub mod Stands
 pub mod Life
 pub mod Tests

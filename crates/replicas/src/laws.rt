@@ -11,6 +11,9 @@ ghost use Rattle.replicas.specs.Laws.{
   LiveEventKeeps,
   LiveFolderMayStop,
   LivesAreSources,
+  MarksNeverFall,
+  RepeatedReplaysDoNothing,
+  ReplayNeverGoesBack,
 };
 
 /// The next event of a database keeps what a half-loaded replica stands for.
@@ -61,4 +64,20 @@ pub fn a_folder_may_stop()
 /// So may a load into a live replica.
 pub fn a_live_folder_may_stop()
     ensures { LiveFolderMayStop }
+{}
+
+/// Events with numbers up to k leave each object with a mark of k or above as it is, a partition where its
+/// table has such a mark too.
+pub fn replay_never_goes_back()
+    ensures { ReplayNeverGoesBack }
+{}
+
+/// An event that was just replayed has no effect when it is replayed again.
+pub fn repeated_replays_do_nothing()
+    ensures { RepeatedReplaysDoNothing }
+{}
+
+/// No object that is there before and behind an event has a lower mark behind it.
+pub fn marks_never_fall()
+    ensures { MarksNeverFall }
 {}

@@ -7,5 +7,6 @@ mod laws;
 pub use laws::{
     a_folder_goes_live, a_folder_may_stop, a_folder_stays_live, a_life_is_a_source,
     a_live_event_keeps, a_live_folder_may_stop, an_event_keeps, bootstraps_go_live,
-    events_end_live, increments_stay_live,
+    events_end_live, increments_stay_live, marks_never_fall, repeated_replays_do_nothing,
+    replay_never_goes_back,
 };
