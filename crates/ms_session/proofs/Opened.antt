@@ -9,13 +9,11 @@ use Rattle.cat_types.specs.declared.steps.Answer.TheVariants as answer
 use Rattle.cat_types.specs.declared.steps.DumpRefusal.{DumpRefusal}
 use Rattle.cat_types.specs.declared.steps.Step.{Step}
 use Rattle.cat_types.specs.declared.steps.Step.TheVariants.{Client, DumpBegin, DumpEnd, DumpEvents, DumpParts, DumpSeal, DumpTable, Trim}
-use Rattle.desk.specs.Adds.{own}
-use Rattle.desk.specs.History.{Entry, IsLegal, Legal, MayFollow, Point, Start, next, point_of, took}
-use Rattle.desk.specs.State.{Beginning, MayAnswer, State, begin_answer, beginning, asked_for, opens, unbegun as refused_so}
+use Rattle.desk.specs.History.{Entry}
 use Rattle.desk.specs.Walks.{Began, DumpRun, Fails, Goes, MayFail, Moves, Place, Unbegun, Walked, Wanted, began_answer, begin_step, broken, done, end, events, parts, place_begun, seal, step_at, tables, unbegun, whole}
 use Rattle.ms_calls.specs.declared.request.Asked.{Asked}
 use Rattle.ms_calls.specs.declared.request.Asked.TheVariants as ask
-use Rattle.repl_dump.specs.Dumps.{Dumps}
+use Rattle.repl_dump.specs.Dumps.{Dumps, NoneTold}
 use Rattle.repl_dump.specs.declared.dumping.DumpAnswer.{DumpAnswer}
 use Rattle.repl_dump.specs.declared.dumping.DumpAnswer.TheVariants as dumped
 use Rattle.ms_session.specs.DumpLaws.{AreOpened, DumpsAreOpen, IsNoDump, IsThere, OnlyDumpsChangeFiles, StepsAreOpened, begun_by, needs, opened_after, opened_by}
@@ -136,41 +134,6 @@ at_failure dump place [] may = keeps_none (Some dump) (Some dump) refl
 at_failure dump place (e ∷ []) may = failed_at dump place e may
 at_failure dump place (e ∷ (other ∷ more)) may = absurd may
 
--- ---- what may be answered in a legal history
-
--- each of these entries may come at some point of a history
-abbrev AreSound : List Entry → Type 0
-AreSound entries = AllByRecursion (λ (e : Entry). (p : Point) × MayFollow p (took e)) entries
-
-sound : (p : Point) (entries : List Entry) → IsLegal p (map took entries) → AreSound entries
-sound p [] legal = tt
-sound p (e ∷ es) legal = ((p, legal.0), sound (next p (took e)) es legal.1)
-
-sound_behind : (xs ys : List Entry) → AreSound (xs ++ ys) → AreSound ys
-sound_behind [] ys all = all
-sound_behind (x ∷ xs) ys all = sound_behind xs ys all.1
-
-sound_before : (xs ys : List Entry) → AreSound (xs ++ ys) → AreSound xs
-sound_before [] ys all = tt
-sound_before (x ∷ xs) ys all = (all.0, sound_before xs ys all.1)
-
-sound_own : (me : ℕ) (entries : List Entry) → AreSound entries → AreSound (own me entries)
-sound_own me [] all = tt
-sound_own me (e ∷ es) all = by_test (e.0.caller == me) (sound_own me es all.1)
-  where
-    by_test : (b : Bool) → AreSound (own me es) → AreSound (cond b (e ∷ own me es) (own me es))
-    by_test true later = (all.0, later)
-    by_test false later = later
-
-not_told : (id : List ℕ) (b : Beginning) → answer.NotOpen ≢ begin_answer id b
-not_told id (refused_so refusal) is = cc
-not_told id (opens dump first) is = cc
-
-begin_known : (s : State) (before caller after : ℕ) (wanted : Wanted) (a : Answer) → MayAnswer s before caller (begin_step wanted) a after → a ≢ answer.NotOpen
-begin_known s before caller after wanted a may no =
-    let here : MayAnswer s before caller (begin_step wanted) answer.NotOpen after = subst (λ (b : Answer). MayAnswer s before caller (begin_step wanted) b after) no may in
-    not_told s.id (beginning s caller wanted.db (asked_for wanted.from wanted.to wanted.limit)) here
-
 -- ---- dumps
 
 none_begun : (a : Answer) → ((began : Began) → a ≢ began_answer began) → begun_by None a ≡ None
@@ -188,77 +151,68 @@ none_begun answer.NotOpen no = refl
 none_begun answer.StoreFault no = refl
 none_begun answer.NoMemory no = refl
 
-not_begun : (wanted : Wanted) (entries : List Entry) → Unbegun wanted entries → AreSound entries → Keeps None None entries
-not_begun wanted entries u sound =
-    let e = u.beginning in
-    let here : AreSound (e ∷ []) = subst AreSound u.is sound in
-    let p = here.0.0 in
-    let may : MayAnswer p.state p.fault e.0.caller (begin_step wanted) e.1.answer e.1.fault = subst (λ (t : Step). MayAnswer p.state p.fault e.0.caller t e.1.answer e.1.fault) u.step here.0.1.1 in
-    subst (Keeps None None) (sym u.is) (keeps_one None None e (begin_step wanted) e.1.answer u.step refl tt (begin_known p.state p.fault e.0.caller e.1.fault wanted e.1.answer may) (none_begun e.1.answer u.answer))
+not_begun : (wanted : Wanted) (entries : List Entry) → Unbegun wanted entries → NoneTold answer.NotOpen entries → Keeps None None entries
+not_begun wanted entries u none =
+    let here : NoneTold answer.NotOpen (u.beginning ∷ []) = subst (NoneTold answer.NotOpen) u.is none in
+    subst (Keeps None None) (sym u.is) (keeps_one None None u.beginning (begin_step wanted) u.beginning.1.answer u.step refl tt here.0 (none_begun u.beginning.1.answer u.answer))
 
-in_run : (wanted : Wanted) (entries : List Entry) → DumpRun wanted entries → AreSound entries → Keeps None None entries
-in_run wanted entries (unbegun u) sound = not_begun wanted entries u sound
-in_run wanted entries (whole began w) sound = in_walk wanted began entries done w
-in_run wanted entries (broken began b) sound =
+in_run : (wanted : Wanted) (entries : List Entry) → DumpRun wanted entries → NoneTold answer.NotOpen entries → Keeps None None entries
+in_run wanted entries (unbegun u) none = not_begun wanted entries u none
+in_run wanted entries (whole began w) none = in_walk wanted began entries done w
+in_run wanted entries (broken began b) none =
     let walked : Keeps None (Some began.dump) b.walked = subst (λ (o : Option ℕ). Keeps None o b.walked) (before_end began.dump b.place b.before_end) (in_walk wanted began b.walked b.place b.goes) in
     let ending : Keeps (Some began.dump) None (b.ending ∷ []) = keeps_one (Some began.dump) None b.ending (DumpEnd began.dump) answer.Ended b.ends.0 b.ends.1 refl (λ no. absurd cc) refl in
     subst (Keeps None None) (sym b.is)
     (keeps_both None (Some began.dump) None b.walked (b.failed ++ b.ending ∷ []) walked
       (keeps_both (Some began.dump) (Some began.dump) None b.failed (b.ending ∷ []) (at_failure began.dump b.place b.failed b.fails) ending))
 
-in_dump : (wanted : Wanted) (given : DumpAnswer) (old new : Option Files) (entries : List Entry) → Dumps wanted given old new entries → AreSound entries → Keeps None None entries
-in_dump wanted (dumped.Done dir last) old new entries d sound = in_walk wanted d.began entries done d.walk
-in_dump wanted (dumped.Refused refusal) old new entries d sound = in_run wanted entries d.0.run sound
-in_dump wanted dumped.FolderFault old new entries d sound = in_run wanted entries d.run sound
-in_dump wanted dumped.StoreFault old new entries d sound = in_run wanted entries d.0.run sound
-in_dump wanted dumped.NoMemory old new entries (inl none) sound = subst (Keeps None None) (sym none.0) (keeps_none None None refl)
-in_dump wanted dumped.NoMemory old new entries (inr d) sound = in_run wanted entries d.run sound
+in_dump : (wanted : Wanted) (given : DumpAnswer) (old new : Option Files) (entries : List Entry) → Dumps wanted given old new entries → Keeps None None entries
+in_dump wanted (dumped.Done dir last) old new entries d = in_walk wanted d.began entries done d.walk
+in_dump wanted (dumped.Refused refusal) old new entries d = in_run wanted entries d.0.run d.0.stays_open
+in_dump wanted dumped.FolderFault old new entries d = in_run wanted entries d.run d.stays_open
+in_dump wanted dumped.StoreFault old new entries d = in_run wanted entries d.0.run d.0.stays_open
+in_dump wanted dumped.NoMemory old new entries (inl none) = subst (Keeps None None) (sym none.0) (keeps_none None None refl)
+in_dump wanted dumped.NoMemory old new entries (inr d) = in_run wanted entries d.run d.stays_open
 
 -- ---- messages
 
 no_steps : (entries : List Entry) → entries ≡ [] → Keeps None None entries
 no_steps entries none = subst (Keeps None None) (sym none) (keeps_none None None refl)
 
-one_message : (asked : Asked) (entries : List Entry) (before after : Shelf) (due : Reply) → Due asked entries before after due → AreSound entries → Keeps None None entries
-one_message (ask.Client call) entries before after due d sound =
+one_message : (asked : Asked) (entries : List Entry) (before after : Shelf) (due : Reply) → Due asked entries before after due → Keeps None None entries
+one_message (ask.Client call) entries before after due d =
     subst (Keeps None None) (sym d.2) (keeps_one None None d.0 (Client call d.1) d.0.1.answer d.3 refl tt (λ no. subst (λ (a : Answer). IsReplyTo a due) no d.4) refl)
-one_message (ask.Dump db from to limit) entries before after due d sound = in_dump _ d.0 before.files after.files entries d.1.dumps sound
-one_message (ask.Trim upto) entries before after due d sound =
+one_message (ask.Dump db from to limit) entries before after due d = in_dump _ d.0 before.files after.files entries d.1.dumps
+one_message (ask.Trim upto) entries before after due d =
     subst (Keeps None None) (sym d.1) (keeps_one None None d.0 (Trim upto) d.0.1.answer d.2 refl tt (λ no. subst (λ (a : Answer). IsTrimReply a due) no d.3) refl)
-one_message (ask.Plain told) entries before after due d sound = no_steps entries d.0
-one_message ask.Unknown entries before after due d sound = no_steps entries d.0
-one_message (ask.BadArgument id) entries before after due d sound = no_steps entries d.0
-one_message ask.Shutdown entries before after due d sound = absurd d
+one_message (ask.Plain told) entries before after due d = no_steps entries d.0
+one_message ask.Unknown entries before after due d = no_steps entries d.0
+one_message (ask.BadArgument id) entries before after due d = no_steps entries d.0
+one_message ask.Shutdown entries before after due d = absurd d
 
-all_messages : (turns : List Turn) → AllByRecursion IsTurn turns → AreSound (flat_map (λ turn. turn.entries) turns) → Keeps None None (flat_map (λ turn. turn.entries) turns)
-all_messages [] each all = keeps_none None None refl
-all_messages (t ∷ ts) each all =
-    let later : List Entry = flat_map (λ (turn : Turn). turn.entries) ts in
-    keeps_both None None None t.entries later
-    (one_message (asks t.message) t.entries t.before t.after each.0.0 each.0.1 (sound_before t.entries later all))
-    (all_messages ts each.1 (sound_behind t.entries later all))
+all_messages : (turns : List Turn) → AllByRecursion IsTurn turns → Keeps None None (flat_map (λ turn. turn.entries) turns)
+all_messages [] each = keeps_none None None refl
+all_messages (t ∷ ts) each =
+    keeps_both None None None t.entries (flat_map (λ (turn : Turn). turn.entries) ts) (one_message (asks t.message) t.entries t.before t.after each.0.0 each.0.1) (all_messages ts each.1)
 
-carried_opened : (turns : List Turn) (bytes : List ℕ) (clock clock' : Option (List ℕ)) (shelf shelf' : Shelf) (entries : List Entry) → Carried turns bytes clock clock' shelf shelf' entries → AreSound entries → DumpsAreOpen entries
-carried_opened turns bytes clock clock' shelf shelf' entries c all =
-    let k : Keeps None None entries = subst (Keeps None None) (sym c.own) (all_messages turns c.each (subst AreSound c.own all)) in
+-- messages that were carried out
+carried_opened : (turns : List Turn) (bytes : List ℕ) (clock clock' : Option (List ℕ)) (shelf shelf' : Shelf) (entries : List Entry) → Carried turns bytes clock clock' shelf shelf' entries → DumpsAreOpen entries
+carried_opened turns bytes clock clock' shelf shelf' entries c =
+    let k : Keeps None None entries = subst (Keeps None None) (sym c.own) (all_messages turns c.each) in
     record { opened = k.opened; told = k.told; ended = k.after }
 
 -- ---- sessions
 
-in_session : (before after : Met) (end : End) (entries : List Entry) → Session before after entries end → AreSound entries → DumpsAreOpen entries
-in_session before after ended.Done entries s all = carried_opened s.turns s.taken before.clock after.clock before.shelf after.shelf entries s.carried all
-in_session before after ended.Shutdown entries s all = carried_opened s.turns s.taken before.clock after.clock before.shelf after.shelf entries s.carried all
-in_session before after (ended.Truncated place) entries s all = carried_opened s.turns s.taken before.clock after.clock before.shelf after.shelf entries s.carried all
-in_session before after (ended.BadWire code place) entries s all = carried_opened s.turns s.taken before.clock after.clock before.shelf after.shelf entries s.carried all
-in_session before after (ended.TooLarge place) entries s all = carried_opened s.turns s.taken before.clock after.clock before.shelf after.shelf entries s.carried all
-in_session before after ended.ReadFault entries s all = carried_opened s.turns s.taken before.clock after.clock before.shelf after.shelf entries s.carried all
-in_session before after ended.WriteFault entries s all = carried_opened (s.turns ++ s.last ∷ []) s.taken before.clock after.clock before.shelf after.shelf entries s.carried all
-in_session before after ended.NoMemory entries (inl s) all = carried_opened s.turns s.taken before.clock after.clock before.shelf after.shelf entries s.carried all
-in_session before after ended.NoMemory entries (inr s) all = carried_opened (s.turns ++ s.last ∷ []) s.taken before.clock after.clock before.shelf after.shelf entries s.carried all
-
 pub steps_opened : StepsAreOpened
-steps_opened before after end s me old added session legal =
-    in_session before after end (own me added) session (sound_own me added (sound_behind old added (sound (point_of s) (old ++ added) legal)))
+steps_opened before after ended.Done entries s = carried_opened s.turns s.taken before.clock after.clock before.shelf after.shelf entries s.carried
+steps_opened before after ended.Shutdown entries s = carried_opened s.turns s.taken before.clock after.clock before.shelf after.shelf entries s.carried
+steps_opened before after (ended.Truncated place) entries s = carried_opened s.turns s.taken before.clock after.clock before.shelf after.shelf entries s.carried
+steps_opened before after (ended.BadWire code place) entries s = carried_opened s.turns s.taken before.clock after.clock before.shelf after.shelf entries s.carried
+steps_opened before after (ended.TooLarge place) entries s = carried_opened s.turns s.taken before.clock after.clock before.shelf after.shelf entries s.carried
+steps_opened before after ended.ReadFault entries s = carried_opened s.turns s.taken before.clock after.clock before.shelf after.shelf entries s.carried
+steps_opened before after ended.WriteFault entries s = carried_opened (s.turns ++ s.last ∷ []) s.taken before.clock after.clock before.shelf after.shelf entries s.carried
+steps_opened before after ended.NoMemory entries (inl s) = carried_opened s.turns s.taken before.clock after.clock before.shelf after.shelf entries s.carried
+steps_opened before after ended.NoMemory entries (inr s) = carried_opened (s.turns ++ s.last ∷ []) s.taken before.clock after.clock before.shelf after.shelf entries s.carried
 
 -- ---- the folder
 

@@ -8,8 +8,7 @@ use Rattle.cat_types.specs.declared.steps.Answer.{Answer}
 use Rattle.cat_types.specs.declared.steps.Answer.TheVariants as answer
 use Rattle.cat_types.specs.declared.steps.Step.{Step}
 use Rattle.cat_types.specs.declared.steps.Step.TheVariants.{Client, DumpBegin, DumpEnd, DumpEvents, DumpParts, DumpSeal, DumpTable, Trim}
-use Rattle.desk.specs.Adds.{own}
-use Rattle.desk.specs.History.{Entry, Legal, Start}
+use Rattle.desk.specs.History.{Entry}
 use Rattle.ms_calls.specs.declared.request.Asked.{Asked}
 use Rattle.ms_calls.specs.declared.request.Asked.TheVariants as ask
 use Rattle.ms_session.specs.Requests.{asks}
@@ -72,9 +71,9 @@ pub record DumpsAreOpen (entries : List Entry) : Type 0 where
   pub told : AllByRecursion (λ entry. entry.1.answer ≢ answer.NotOpen) entries
   pub ended : opened_by None entries ≡ None
 
--- in a legal history, whatever others did in it, each step on a dump that a session took is of a dump which it opened and has not ended, so none is answered that the dump isn't open; and the session leaves no dump open
+-- whatever others did in between, each step on a dump that a session took is of a dump which it opened and has not ended, so none is answered that the dump isn't open; and the session leaves no dump open
 abbrev pub StepsAreOpened : Type 0
-StepsAreOpened = (before after : Met) (end : End) (s : Start) (me : ℕ) (old added : List Entry) → Session before after (own me added) end → Legal s (old ++ added) → DumpsAreOpen (own me added)
+StepsAreOpened = (before after : Met) (end : End) (entries : List Entry) → Session before after entries end → DumpsAreOpen entries
 
 -- ---- only dumps change the folder
 
