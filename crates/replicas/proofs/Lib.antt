@@ -20,3 +20,6 @@ pub mod Untouched
 pub mod Keeping
 pub mod Repeats
 pub mod Growing
+pub mod Keys
+pub mod TablesDone
+pub mod CatalogueDone

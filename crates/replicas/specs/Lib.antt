@@ -5,5 +5,6 @@ pub mod Source
 pub mod Keeping
 pub mod Stands
 pub mod Life
+pub mod Catalogues
 pub mod Tests
 pub mod Laws
