@@ -137,19 +137,19 @@ at_failure dump place (e ∷ (other ∷ more)) may = absurd may
 -- ---- dumps
 
 none_begun : (a : Answer) → ((began : Began) → a ≢ began_answer began) → begun_by None a ≡ None
-none_begun (answer.Began dump source born begin end first) no = absurd (no (record { dump = dump; source = source; born = born; begin = begin; end = end; first = first }) refl)
-none_begun (answer.Reply told) no = refl
-none_begun (answer.Table item) no = refl
-none_begun answer.NoTable no = refl
-none_begun (answer.Parts items more) no = refl
-none_begun (answer.Sealed number) no = refl
-none_begun (answer.Events found more) no = refl
-none_begun answer.Ended no = refl
-none_begun (answer.DumpRefused refusal) no = refl
-none_begun (answer.Kept first) no = refl
-none_begun answer.NotOpen no = refl
-none_begun answer.StoreFault no = refl
-none_begun answer.NoMemory no = refl
+none_begun (answer.Began dump source born begin upto first) other = absurd (other (record { dump = dump; source = source; born = born; begin = begin; end = upto; first = first }) refl)
+none_begun (answer.Reply told) other = refl
+none_begun (answer.Table item) other = refl
+none_begun answer.NoTable other = refl
+none_begun (answer.Parts items more) other = refl
+none_begun (answer.Sealed number) other = refl
+none_begun (answer.Events found more) other = refl
+none_begun answer.Ended other = refl
+none_begun (answer.DumpRefused refusal) other = refl
+none_begun (answer.Kept first) other = refl
+none_begun answer.NotOpen other = refl
+none_begun answer.StoreFault other = refl
+none_begun answer.NoMemory other = refl
 
 not_begun : (wanted : Wanted) (entries : List Entry) → Unbegun wanted entries → NoneTold answer.NotOpen entries → Keeps None None entries
 not_begun wanted entries u none =
