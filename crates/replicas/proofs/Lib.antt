@@ -23,3 +23,4 @@ pub mod Growing
 pub mod Keys
 pub mod TablesDone
 pub mod CatalogueDone
+pub mod Fitting

@@ -22,7 +22,7 @@ both {p = true} {q = true} f g join left right = (λ e. join (f.0 refl) (g.0 ref
 both {p = true} {q = false} f g join left right = (λ e. absurd (cc), λ r. g.1 (right r))
 both {p = false} f g join left right = (λ e. absurd (cc), λ r. f.1 (left r))
 
-has_decides : {A : Type 0} (o : Option A) → Decides (is_some o) (Has o)
+pub has_decides : {A : Type 0} (o : Option A) → Decides (is_some o) (Has o)
 has_decides None = (λ e. absurd (cc), λ h. absurd (not_both refl h.is))
 has_decides (Some x) = (λ e. record { value = x; is = refl }, λ h. refl)
 

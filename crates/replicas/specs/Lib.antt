@@ -6,5 +6,8 @@ pub mod Keeping
 pub mod Stands
 pub mod Life
 pub mod Catalogues
+pub mod Histories
+pub mod Stores
 pub mod Tests
 pub mod Laws
+pub mod StoreLaws

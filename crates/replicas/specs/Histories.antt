@@ -1,0 +1,44 @@
+-- The catalogues and the changes of a source's history, by number.
+use Rattle.std.specs.Prelude.{◌≡◌, ◌⊎◌, ℕ, ◌+◌, ◌<◌, ◌≤◌, true, List, [], ◌∷◌, None}
+use Rattle.cat_objects.specs.Catalogue.{Catalogue}
+use Rattle.cat_objects.specs.Changes.{done, done_op, takes_change}
+use Rattle.cat_types.specs.declared.changes.Change.{Change}
+use Rattle.cat_types.specs.declared.changes.Op.{Op}
+use Rattle.cat_types.specs.declared.changes.Op.TheVariants.{DropDb, DropPart, DropTable, MovePart, MoveTable, PutDb, PutPart, PutTable}
+use Rattle.replicas.specs.Catalogues.{IsInOrder, objects_of}
+use Rattle.replicas.specs.Life.{HasDb}
+use Rattle.replicas.specs.Objects.{Name, Objects}
+use Rattle.replicas.specs.Source.{AllApart, Each, MakesNew}
+
+-- where operations of event e, each after those before it, put a table at a name that has none, its born is e
+abbrev pub BornsAreNew : ℕ → Name → ℕ → Catalogue → List Op → Type 0
+BornsAreNew e d born cat [] = Unit {0}
+BornsAreNew e d born cat (op ∷ ops) = MakesNew e op (objects_of d cat) × BornsAreNew e d born (done_op d born cat op) ops
+
+-- each database has the base for its born and no tables, and names rise
+pub record IsNew (base : ℕ) (cat : Catalogue) : Type 0 where
+  pub databases : (w : Name) → ((objects_of w cat).db ≡ None) ⊎ HasDb base (objects_of w cat)
+  pub no_tables : (w n : Name) → (objects_of w cat).tab n ≡ None
+  pub order : IsInOrder cat
+
+-- from a new catalogue at the base on, each next one is made by the change with its number, which the catalogue before it takes as that event; what it makes has a new born, and its operations are apart
+pub record AreChanges (cats : ℕ → Catalogue) (changes : ℕ → Change) (base newest : ℕ) : Type 0 where
+  pub start : IsNew base (cats base)
+  pub next : (e : ℕ) → base ≤ e → e < newest → cats (e + 1) ≡ done (changes (e + 1)) (cats e)
+  pub taken : (e : ℕ) → base ≤ e → e < newest → takes_change (cats e) (e + 1) (changes (e + 1)) ≡ true
+  pub news : (e : ℕ) → base ≤ e → e < newest → BornsAreNew (e + 1) (changes (e + 1)).db (changes (e + 1)).db_born (cats e) (changes (e + 1)).ops
+  pub apart : (e : ℕ) → base ≤ e → e < newest → AllApart (changes (e + 1)).ops
+
+-- the objects of the database w after each number
+abbrev pub source_of : Name → (ℕ → Catalogue) → ℕ → Objects
+source_of w cats k = objects_of w (cats k)
+
+-- two puts of partitions have different values
+abbrev pub OtherValues : Op → Op → Type 0
+OtherValues (PutPart n b v rec) (PutPart m c w other) = v ≡ w → ⊥
+OtherValues op later = Unit {0}
+
+-- no values are put twice
+abbrev pub ValuesDiffer : List Op → Type 0
+ValuesDiffer [] = Unit {0}
+ValuesDiffer (op ∷ ops) = Each (OtherValues op) ops × ValuesDiffer ops
