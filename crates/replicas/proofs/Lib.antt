@@ -24,3 +24,8 @@ pub mod Keys
 pub mod TablesDone
 pub mod CatalogueDone
 pub mod Fitting
+pub mod Effects
+pub mod Histories
+pub mod Calls
+pub mod Stores
+pub mod Equality

@@ -258,7 +258,7 @@ both_fresh e op r q d k [] apart fresh = tt
 both_fresh e op r q d k (later ∷ ops) apart fresh = (fresh_stays e op r q d k later apart.0 fresh.0, both_fresh e op r q d k ops apart.1 fresh.1)
 
 -- the database stays there
-db_stays_there : (op : Op) (s t : Objects) → Done op s t → Has s.db → Has t.db
+pub db_stays_there : (op : Op) (s t : Objects) → Done op s t → Has s.db → Has t.db
 db_stays_there (PutDb rec) s t d h = record { value = (h.value.0, rec); is = d.puts ∙ ap (with_record rec) h.is }
 db_stays_there DropDb s t d h = record { value = h.value; is = d.puts ∙ h.is }
 db_stays_there (PutTable n b rec) s t d h = record { value = h.value; is = d.puts.0 ∙ h.is }
