@@ -1,18 +1,17 @@
 -- What a call changes is apart, and a new store is new.
-use Rattle.std.proofs.Common.{◌≡◌, ◌⊎◌, inl, inr, ℕ, Bool, true, false, ◌&&◌, ◌||◌, List, [], ◌∷◌, Option, Some, None, cond, refl, sym, ◌∙◌, ap, subst}
+use Rattle.std.proofs.Common.{◌≡◌, ◌⊎◌, inl, inr, Bool, true, false, ◌||◌, List, [], ◌∷◌, Some, None, cond, refl, sym, ◌∙◌, ap}
 use Rattle.std.specs.Prelude.{codes}
 use Rattle.std.specs.Cmp.Lexicographic.{slice_cmp}
 use Rattle.std.specs.List.{list_all}
 use Rattle.std.specs.List.Sorted.{IsStrictlySortedBy}
 use Rattle.std.specs.Ordering.{nat_cmp}
-use Rattle.cat_objects.specs.Catalogue.{at_name, database, empty_database, is_name, new_catalogue, parts_of, table, tables_of}
+use Rattle.cat_objects.specs.Catalogue.{at_name, empty_database, is_name, parts_of, tables_of}
 use Rattle.cat_objects.specs.Changes.{are_puts, is_any, is_one, puts_under}
-use Rattle.cat_objects.specs.declared.held.HeldDb.{HeldDb}
 use Rattle.cat_objects.proofs.Rising.{none_rise}
 use Rattle.cat_objects.proofs.Taking.{first_of, last_of}
 use Rattle.cat_types.specs.declared.changes.Op.{Op}
 use Rattle.cat_types.specs.declared.changes.Op.TheVariants.{DropDb, DropPart, DropTable, MovePart, MoveTable, PutDb, PutPart, PutTable}
-use Rattle.replicas.specs.Catalogues.{objects_in, objects_of, shown_db}
+use Rattle.replicas.specs.Catalogues.{objects_in, shown_db}
 use Rattle.replicas.specs.Histories.{OtherValues, ValuesDiffer}
 use Rattle.replicas.specs.Life.{HasDb}
 use Rattle.replicas.specs.Objects.{Name}

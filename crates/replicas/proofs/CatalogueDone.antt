@@ -1,11 +1,11 @@
 -- Operations done on a catalogue are done on the objects of their database, and leave those of the others.
-use Rattle.std.proofs.Common.{◌≡◌, ◌⊎◌, inl, inr, ℕ, Bool, true, false, List, [], ◌∷◌, cond, Option, Some, None, refl, sym, ◌∙◌, ap, subst}
+use Rattle.std.proofs.Common.{◌≡◌, inl, inr, ℕ, Bool, true, false, List, [], ◌∷◌, cond, Option, Some, None, refl, sym, ◌∙◌, ap, subst}
 use Rattle.std.specs.Cmp.Lexicographic.{nat_list_cmp_total, slice_cmp}
 use Rattle.std.specs.List.Sorted.{IsStrictlySortedBy}
 use Rattle.std.specs.Map.{keys_of}
 use Rattle.std.specs.Option.{option_map}
 use Rattle.std.specs.Ordering.{nat_cmp}
-use Rattle.cat_objects.specs.Catalogue.{Catalogue, at_name, database, is_name, parts_of, put_at, table, tables_of}
+use Rattle.cat_objects.specs.Catalogue.{Catalogue, at_name, database, is_name, parts_of, put_at, tables_of}
 use Rattle.cat_objects.specs.Changes.{changed_in, changed_parts, changed_tables, done_op, done_ops, is_drop_db, moved_table, put_table, with_record, with_tables, without_table}
 use Rattle.cat_objects.specs.Parts.{PartList, at_values, moved_part, put_part, without_part}
 use Rattle.cat_objects.specs.declared.held.HeldDb.{HeldDb}
@@ -17,13 +17,11 @@ use Rattle.cat_objects.proofs.Rising.{none_rise, rising_put, rising_remove, risi
 use Rattle.cat_objects.proofs.Seeing.{after_is, db_after, db_rises, tables_after}
 use Rattle.cat_types.specs.declared.changes.Op.{Op}
 use Rattle.cat_types.specs.declared.changes.Op.TheVariants.{DropDb, DropPart, DropTable, MovePart, MoveTable, PutDb, PutPart, PutTable}
-use Rattle.cat_values.specs.declared.records.DbRec.{DbRec}
 use Rattle.cat_values.specs.declared.records.PartRec.{PartRec}
-use Rattle.replicas.specs.Catalogues.{IsInOrder, objects_in, objects_of, shown_db, shown_table}
-use Rattle.replicas.specs.Life.{HasDb}
+use Rattle.replicas.specs.Catalogues.{IsInOrder, objects_in, objects_of, shown_table}
 use Rattle.replicas.specs.Objects.{Name, Values, Table, Objects, Has, SameObjects}
 use Rattle.replicas.specs.Operations.{Fits, Done}
-use Rattle.replicas.proofs.Basics.{Same, same_name, same_values, not_both}
+use Rattle.replicas.proofs.Basics.{Same, same_name, not_both}
 use Rattle.replicas.proofs.Keys.{name_here, name_off}
 use Rattle.replicas.proofs.TablesDone.{Rises, ValuesRise, change_absent, change_keeps, change_off, change_tab, change_there, drop_here, drop_off, made, move_from, move_off, move_to, part_drop_here, part_drop_off, part_drop_rises, part_move_from, part_move_off, part_move_rises, part_move_to, part_put_here, part_put_off, part_put_rises, put_here, put_off, put_parts, seen_par, seen_tab}
 

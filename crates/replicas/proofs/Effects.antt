@@ -1,18 +1,16 @@
 -- Where an operation takes effect, and that what is replayed by the function is replayed.
-use Rattle.std.proofs.Common.{◌≡◌, ◌⊎◌, inl, inr, ℕ, Bool, true, false, ◌&&◌, cond, refl, sym, ◌∙◌, ap, subst}
-use Rattle.cat_objects.specs.Catalogue.{Catalogue, is_name}
+use Rattle.std.proofs.Common.{◌≡◌, inl, inr, ℕ, Bool, true, false, ◌&&◌, cond, refl, sym, ◌∙◌, ap}
+use Rattle.cat_objects.specs.Catalogue.{is_name}
 use Rattle.cat_objects.specs.Changes.{done_op, is_drop_db}
-use Rattle.cat_objects.specs.Lawful.{finds, is_lawful}
 use Rattle.cat_objects.specs.Parts.{are_values}
 use Rattle.cat_objects.proofs.Fitting.{fitting_finds, lawful_that_finds_fits}
 use Rattle.cat_types.specs.declared.changes.Op.{Op}
 use Rattle.cat_types.specs.declared.changes.Op.TheVariants.{DropDb, DropPart, DropTable, MovePart, MoveTable, PutDb, PutPart, PutTable}
-use Rattle.replicas.specs.Catalogues.{is_sound, objects_of}
-use Rattle.replicas.specs.Laws.{Passes}
+use Rattle.replicas.specs.Catalogues.{is_sound}
 use Rattle.replicas.specs.Objects.{Name, Values, Marks, SameMarks}
-use Rattle.replicas.specs.Replay.{Acts, Marked}
+use Rattle.replicas.specs.Replay.{Marked}
 use Rattle.replicas.specs.StoreLaws.{ActsWhereItTakesEffect, DoneOnCatalogues, DropsNeverAct, FittingActs, ReplaysAreDone}
-use Rattle.replicas.specs.Stores.{Redoes, Store, TakesEffect, marked, replayed, replica_of}
+use Rattle.replicas.specs.Stores.{Redoes, marked, replica_of}
 use Rattle.replicas.specs.Tests.{acts}
 use Rattle.replicas.proofs.CatalogueDone.{done_by_catalogue, order_stays}
 use Rattle.replicas.proofs.Fitting.{fits_fact, fits_test, lawful_sound, lawful_test, sound_fact}

@@ -11,22 +11,20 @@ use Rattle.std.specs.Map.{keys_of, lookup}
 use Rattle.std.specs.Option.{option_map}
 use Rattle.std.specs.Ordering.{is_eq, is_lt, nat_cmp}
 use Rattle.std.specs.declared.cmp.Ordering.{Ordering}
-use Rattle.std.specs.declared.cmp.Ordering.TheVariants.{Equal, Less}
+use Rattle.std.specs.declared.cmp.Ordering.TheVariants.{Less}
 use Rattle.cat_objects.specs.Catalogue.{Catalogue, at_name, database, parts_of, tables_of}
 use Rattle.cat_objects.specs.Parts.{PartList, at_values}
 use Rattle.cat_objects.specs.declared.held.HeldDb.{HeldDb}
 use Rattle.cat_objects.specs.declared.held.HeldTable.{HeldTable}
 use Rattle.cat_objects.proofs.Editing.{Tables}
 use Rattle.cat_values.specs.declared.records.DbRec.{DbRec}
-use Rattle.cat_values.specs.declared.records.PartRec.{PartRec}
 use Rattle.cat_values.specs.declared.records.TableRec.{TableRec}
-use Rattle.replicas.specs.Catalogues.{IsInOrder, objects_in, objects_of, shown_db, shown_table}
-use Rattle.replicas.specs.Histories.{source_of}
+use Rattle.replicas.specs.Catalogues.{IsInOrder, objects_of, shown_db, shown_table}
 use Rattle.replicas.specs.Objects.{Name, Values, Table, SameObjects}
 use Rattle.replicas.specs.StoreLaws.{LiveReplicasAreEqual}
 use Rattle.replicas.proofs.Histories.{all_stay}
 use Rattle.replicas.proofs.Keys.{Tells, name_tells, values_tell}
-use Rattle.replicas.proofs.TablesDone.{Rises, ValuesRise, seen_par, seen_tab}
+use Rattle.replicas.proofs.TablesDone.{Rises, ValuesRise}
 
 -- ---- lists in order with the same look-ups
 

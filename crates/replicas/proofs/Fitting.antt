@@ -1,22 +1,21 @@
 -- Tests of the catalogue, as facts on the objects of a database.
-use Rattle.std.proofs.Common.{◌≡◌, ◌⊎◌, inl, inr, ℕ, ◌≤◌, Bool, true, false, not, ◌&&◌, List, [], ◌∷◌, length, Option, Some, None, is_some, refl, sym, ◌∙◌, ap, subst, arith}
+use Rattle.std.proofs.Common.{◌≡◌, ℕ, ◌≤◌, true, not, ◌&&◌, List, [], ◌∷◌, length, Option, Some, None, is_some, refl, sym, ◌∙◌, ap, arith}
 use Rattle.std.specs.Prelude.{◌==◌, nat_le}
 use Rattle.std.proofs.lemmas.Bool.Decides.{nat_tests}
 use Rattle.std.specs.List.{list_all}
 use Rattle.std.specs.Option.{option_map}
-use Rattle.cat_objects.specs.Catalogue.{Catalogue, at_name, database, has_part, has_table, part, table, tables_of}
+use Rattle.cat_objects.specs.Catalogue.{Catalogue, has_part, has_table, part, table}
 use Rattle.cat_objects.specs.Changes.{can_hold, fits_op, fits_over, is_lawful_table, is_table_born, is_valid_value}
-use Rattle.cat_objects.specs.Lawful.{finds, is_lawful, keeps_keys, may_stand, names_in, takes_values}
+use Rattle.cat_objects.specs.Lawful.{is_lawful, keeps_keys, may_stand, names_in, takes_values}
 use Rattle.cat_objects.specs.declared.held.HeldTable.{HeldTable}
-use Rattle.cat_objects.proofs.Fitting.{both, fitting_finds, lawful_that_finds_fits}
-use Rattle.cat_objects.proofs.Taking.{first_of, is_free, last_of}
+use Rattle.cat_objects.proofs.Fitting.{both}
+use Rattle.cat_objects.proofs.Taking.{first_of, last_of}
 use Rattle.cat_types.specs.declared.changes.Op.{Op}
 use Rattle.cat_types.specs.declared.changes.Op.TheVariants.{DropDb, DropPart, DropTable, MovePart, MoveTable, PutDb, PutPart, PutTable}
 use Rattle.cat_values.specs.Names.{is_object_name}
 use Rattle.cat_values.specs.declared.records.PartRec.{PartRec}
 use Rattle.cat_values.specs.declared.records.TableRec.{TableRec}
 use Rattle.replicas.specs.Catalogues.{is_sound, objects_of, shown_table}
-use Rattle.replicas.specs.Laws.{Passes}
 use Rattle.replicas.specs.Objects.{Name, Values, Table, Objects, Has, HasBorn, Takes}
 use Rattle.replicas.specs.Operations.{Fits, FitsOver}
 use Rattle.replicas.proofs.Basics.{not_both, one}

@@ -1,16 +1,16 @@
 -- Marks don't fall, and partitions stay under tables.
-use Rattle.std.proofs.Common.{◌≡◌, ◌⊎◌, inl, inr, ℕ, ◌≤◌, List, [], ◌∷◌, Option, Some, None, refl, sym, ◌∙◌, subst, arith}
+use Rattle.std.proofs.Common.{◌≡◌, ◌⊎◌, inl, inr, ℕ, ◌≤◌, List, [], ◌∷◌, Option, Some, None, sym, ◌∙◌, subst, arith}
 use Rattle.cat_types.specs.declared.changes.Op.{Op}
 use Rattle.cat_types.specs.declared.changes.Op.TheVariants.{DropDb, DropPart, DropTable, MovePart, MoveTable, PutDb, PutPart, PutTable}
 use Rattle.cat_values.specs.declared.records.PartRec.{PartRec}
-use Rattle.replicas.specs.Keeping.{SameDb, SameTable, SamePart, IsRooted, MarksGrow}
+use Rattle.replicas.specs.Keeping.{SameTable, SamePart, IsRooted, MarksGrow}
 use Rattle.replicas.specs.Laws.{MarksNeverFall, Passes}
 use Rattle.replicas.specs.Objects.{Name, Values, Table, Objects, Replica, Has}
 use Rattle.replicas.specs.Operations.{touches_db, touches_tab, touches_par, Fits, Done}
 use Rattle.replicas.specs.Replay.{TookEffect, Replays}
 use Rattle.replicas.specs.Source.{AllApart, Each, IsApart}
 use Rattle.replicas.specs.Stands.{ReplaysAll}
-use Rattle.replicas.proofs.Basics.{Same, same_name, same_values, not_both}
+use Rattle.replicas.proofs.Basics.{same_name, same_values, not_both}
 use Rattle.replicas.proofs.Untouched.{db_kept, tab_kept, par_kept}
 
 -- ---- what an operation touches can be told

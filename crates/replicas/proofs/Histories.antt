@@ -1,19 +1,15 @@
 -- The changes of a history are a life of each database.
-use Rattle.std.proofs.Common.{◌≡◌, ◌⊎◌, inl, inr, ℕ, ◌+◌, ◌≤◌, ◌<◌, Bool, true, false, not, ◌&&◌, List, [], ◌∷◌, Option, Some, None, is_some, refl, sym, ◌∙◌, ap, subst, arith}
+use Rattle.std.proofs.Common.{◌≡◌, inl, inr, ℕ, ◌+◌, ◌≤◌, ◌<◌, Bool, true, false, not, ◌&&◌, List, [], ◌∷◌, Option, Some, None, is_some, refl, sym, ◌∙◌, ap, subst, arith}
 use Rattle.std.specs.Prelude.{◌==◌, nat_le}
-use Rattle.std.specs.Cmp.Lexicographic.{slice_cmp}
-use Rattle.std.specs.List.{list_all}
-use Rattle.std.specs.List.Sorted.{IsStrictlySortedBy}
 use Rattle.std.specs.Option.{option_map}
-use Rattle.std.specs.Ordering.{nat_cmp}
 use Rattle.std.proofs.lemmas.Bool.Decides.{nat_tests}
-use Rattle.cat_objects.specs.Catalogue.{Catalogue, at_name, database, has_database, is_name, new_catalogue, parts_of, tables_of}
-use Rattle.cat_objects.specs.Changes.{are_puts, are_some, done, done_op, done_ops, fits_creation, fits_database, fits_drop, fits_kind, fits_op, fits_ops, is_any, is_born, is_drop_db, is_one, is_put_db, puts_under, takes_change}
+use Rattle.cat_objects.specs.Catalogue.{Catalogue, at_name, database, has_database, parts_of, tables_of}
+use Rattle.cat_objects.specs.Changes.{done, done_op, done_ops, fits_creation, fits_database, fits_drop, fits_kind, fits_op, fits_ops, is_born, is_drop_db, is_one, is_put_db, takes_change}
 use Rattle.cat_objects.specs.declared.held.HeldDb.{HeldDb}
 use Rattle.cat_objects.specs.declared.held.HeldTable.{HeldTable}
 use Rattle.cat_objects.specs.Parts.{at_values}
 use Rattle.cat_objects.proofs.Seeing.{after_is, db_after}
-use Rattle.cat_objects.proofs.Taking.{first_of, is_free, last_of}
+use Rattle.cat_objects.proofs.Taking.{first_of, last_of}
 use Rattle.cat_types.specs.declared.changes.Change.{Change}
 use Rattle.cat_types.specs.declared.changes.EventKind.{EventKind}
 use Rattle.cat_types.specs.declared.changes.EventKind.TheVariants as kind
@@ -26,10 +22,10 @@ use Rattle.replicas.specs.Histories.{AreChanges, BornsAreNew, source_of}
 use Rattle.replicas.specs.Laws.{Passes}
 use Rattle.replicas.specs.Life.{BeginsEmpty, Happened, HasDb, Life, called, created, dropped, elsewhere}
 use Rattle.replicas.specs.Objects.{Name, Values, Table, Objects, Has, SameObjects}
-use Rattle.replicas.specs.Operations.{Done, Fits, touches_tab}
+use Rattle.replicas.specs.Operations.{Done, touches_tab}
 use Rattle.replicas.specs.Source.{AllApart, Each, Steps}
 use Rattle.replicas.specs.StoreLaws.{ChangesAreLives, HistoriesStayInOrder}
-use Rattle.replicas.proofs.Basics.{Same, same_name, not_both, one}
+use Rattle.replicas.proofs.Basics.{Same, same_name, not_both}
 use Rattle.replicas.proofs.CatalogueDone.{done_by_catalogue, dropped_is_gone, order_stays, orders_stay, others_stay, same_in}
 use Rattle.replicas.proofs.Fitting.{AreNamed, fits_fact, sound_fact}
 use Rattle.replicas.proofs.Growing.{tells_tab}

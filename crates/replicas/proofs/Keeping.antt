@@ -1,7 +1,5 @@
 -- Replayed events leave what has a later mark.
-use Rattle.std.proofs.Common.{◌≡◌, inl, inr, ℕ, ◌≤◌, List, [], ◌∷◌, Some, None, refl, sym, ◌∙◌, subst, arith}
-use Rattle.std.specs.List.{AllByRecursion}
-use Rattle.cat_types.specs.declared.changes.Event.{Event}
+use Rattle.std.proofs.Common.{◌≡◌, inl, inr, ℕ, ◌≤◌, List, [], ◌∷◌, Some, None, sym, ◌∙◌, subst, arith}
 use Rattle.cat_types.specs.declared.changes.Op.{Op}
 use Rattle.cat_types.specs.declared.changes.Op.TheVariants.{DropDb, DropPart, DropTable, MovePart, MoveTable, PutDb, PutPart, PutTable}
 use Rattle.cat_values.specs.declared.records.PartRec.{PartRec}
@@ -10,7 +8,7 @@ use Rattle.replicas.specs.Laws.{ReplayNeverGoesBack, Passes}
 use Rattle.replicas.specs.Objects.{Name, Values, Table, Replica, SameObjects, SameMarks}
 use Rattle.replicas.specs.Operations.{touches_db, touches_tab, touches_par}
 use Rattle.replicas.specs.Replay.{Acts, Replays}
-use Rattle.replicas.specs.Stands.{ReplaysAll, ReplaysEvents}
+use Rattle.replicas.specs.Stands.{ReplaysAll}
 use Rattle.replicas.proofs.Basics.{not_both}
 use Rattle.replicas.proofs.Untouched.{db_kept, tab_kept, par_kept}
 

@@ -1,12 +1,12 @@
 -- An event that was replayed has no effect when it is replayed again.
-use Rattle.std.proofs.Common.{◌≡◌, ◌⊎◌, inl, inr, ℕ, ◌<◌, List, [], ◌∷◌, length, Option, Some, None, refl, sym, ◌∙◌, subst, arith}
+use Rattle.std.proofs.Common.{◌≡◌, ◌⊎◌, inl, inr, ℕ, ◌<◌, List, [], ◌∷◌, length, Option, None, refl, sym, ◌∙◌, subst, arith}
 use Rattle.cat_types.specs.declared.changes.Op.{Op}
 use Rattle.cat_types.specs.declared.changes.Op.TheVariants.{DropDb, DropPart, DropTable, MovePart, MoveTable, PutDb, PutPart, PutTable}
 use Rattle.cat_values.specs.declared.records.DbRec.{DbRec}
 use Rattle.cat_values.specs.declared.records.PartRec.{PartRec}
 use Rattle.replicas.specs.Keeping.{SameDb, SameTable, SamePart}
 use Rattle.replicas.specs.Laws.{RepeatedReplaysDoNothing, Passes}
-use Rattle.replicas.specs.Objects.{Name, Values, Table, Replica, Has, HasBorn, Takes, SameObjects, SameMarks}
+use Rattle.replicas.specs.Objects.{Name, Values, Replica, Has, HasBorn, Takes, SameObjects, SameMarks}
 use Rattle.replicas.specs.Operations.{touches_db, touches_tab, touches_par, FitsOver}
 use Rattle.replicas.specs.Replay.{Acts, TookEffect, Replays}
 use Rattle.replicas.specs.Source.{AllApart, Each, IsApart}

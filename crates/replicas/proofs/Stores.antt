@@ -1,22 +1,19 @@
 -- Loads over the catalogue of a replica's store.
-use Rattle.std.proofs.Common.{◌≡◌, ◌⊎◌, inl, inr, ℕ, ◌+◌, ◌-◌, ◌≤◌, ◌<◌, Bool, true, false, max, List, [], ◌∷◌, Option, Some, None, refl, sym, ◌∙◌, ap, subst, arith}
+use Rattle.std.proofs.Common.{◌≡◌, inl, inr, ℕ, ◌≤◌, Bool, true, false, List, [], ◌∷◌, refl, sym, ◌∙◌, ap, subst, arith}
 use Rattle.std.specs.Prelude.{filter}
 use Rattle.cat_objects.specs.Catalogue.{Catalogue, database}
-use Rattle.cat_objects.specs.Changes.{done_op}
-use Rattle.cat_objects.specs.declared.held.HeldDb.{HeldDb}
 use Rattle.cat_types.specs.declared.changes.Change.{Change}
 use Rattle.cat_types.specs.declared.changes.Event.{Event}
 use Rattle.cat_types.specs.declared.changes.Op.{Op}
-use Rattle.cat_values.specs.declared.records.DbRec.{DbRec}
-use Rattle.replicas.specs.Catalogues.{IsInOrder, is_sound, objects_in, objects_of}
+use Rattle.replicas.specs.Catalogues.{IsInOrder, is_sound, objects_of}
 use Rattle.replicas.specs.Histories.{AreChanges, source_of}
 use Rattle.replicas.specs.Laws.{Passes}
-use Rattle.replicas.specs.Life.{AreNumbered, HasDb, Life, is_above, is_of, ops_of}
-use Rattle.replicas.specs.Objects.{Name, Objects, Has, SameMarks, SameObjects}
-use Rattle.replicas.specs.Operations.{Done, Fits}
+use Rattle.replicas.specs.Life.{HasDb, is_above, is_of, ops_of}
+use Rattle.replicas.specs.Objects.{Name, Has, SameObjects}
+use Rattle.replicas.specs.Operations.{Done}
 use Rattle.replicas.specs.Replay.{Acts, Replays}
-use Rattle.replicas.specs.Source.{NoMoves, Source}
-use Rattle.replicas.specs.Stands.{Quiet, ReplaysAll, ReplaysEvents, StandsEvents, StandsLive}
+use Rattle.replicas.specs.Source.{Source}
+use Rattle.replicas.specs.Stands.{ReplaysAll, ReplaysEvents}
 use Rattle.replicas.specs.StoreLaws.{StoreEventKeeps, StoreEventsThenLive, StoreLiveEventKeeps, StoresGoLive, StoresStayLive}
 use Rattle.replicas.specs.Stores.{Redoes, RedoesAll, RedoesEvents, Store, replica_of}
 use Rattle.replicas.specs.Tests.{acts}

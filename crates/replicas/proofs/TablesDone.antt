@@ -1,5 +1,5 @@
 -- What an operation does to tables and their partitions, seen by look-ups.
-use Rattle.std.proofs.Common.{◌≡◌, ◌⊎◌, inl, inr, ℕ, Bool, true, false, List, [], ◌∷◌, cond, Option, Some, None, refl, sym, ◌∙◌, ap, subst}
+use Rattle.std.proofs.Common.{◌≡◌, inl, inr, ℕ, Bool, true, false, [], cond, Option, Some, None, refl, sym, ◌∙◌, ap, subst}
 use Rattle.std.specs.Cmp.{IsTotalOrder}
 use Rattle.std.specs.Cmp.Lexicographic.{lists_total, nat_list_cmp_total, slice_cmp}
 use Rattle.std.specs.List.Sorted.{IsStrictlySortedBy}
@@ -12,12 +12,12 @@ use Rattle.cat_objects.specs.Parts.{PartList, are_values, at_values, moved_part,
 use Rattle.cat_objects.specs.declared.held.HeldTable.{HeldTable}
 use Rattle.cat_objects.proofs.Editing.{Tables}
 use Rattle.cat_objects.proofs.Found.{found_apart, found_changed, found_own, found_put, found_removed}
-use Rattle.cat_objects.proofs.Rising.{none_rise, rising_put, rising_remove}
+use Rattle.cat_objects.proofs.Rising.{rising_put, rising_remove}
 use Rattle.cat_values.specs.declared.records.PartRec.{PartRec}
 use Rattle.cat_values.specs.declared.records.TableRec.{TableRec}
 use Rattle.replicas.specs.Catalogues.{shown_table}
-use Rattle.replicas.specs.Objects.{Name, Values, Table, Has}
-use Rattle.replicas.proofs.Basics.{Same, same_name, same_values}
+use Rattle.replicas.specs.Objects.{Name, Values, Table}
+use Rattle.replicas.proofs.Basics.{same_name}
 use Rattle.replicas.proofs.Keys.{name_here, name_off, values_here, values_off}
 
 abbrev pub Rises : Tables → Type 0

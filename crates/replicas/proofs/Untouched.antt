@@ -1,5 +1,5 @@
 -- What an operation doesn't touch stays, whether it took effect or not.
-use Rattle.std.proofs.Common.{◌≡◌, inl, inr, ℕ}
+use Rattle.std.proofs.Common.{inl, inr, ℕ}
 use Rattle.cat_types.specs.declared.changes.Op.{Op}
 use Rattle.replicas.specs.Keeping.{SameDb, SameTable, SamePart}
 use Rattle.replicas.specs.Objects.{Name, Values, Replica}

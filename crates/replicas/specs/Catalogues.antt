@@ -1,5 +1,5 @@
 -- The objects of a database in the catalogue, and what is asked of an operation alone.
-use Rattle.std.specs.Prelude.{◌≡◌, ℕ, Bool, true, ◌&&◌, List, Option, Some, None}
+use Rattle.std.specs.Prelude.{ℕ, Bool, true, ◌&&◌, Option}
 use Rattle.std.specs.Cmp.Lexicographic.{slice_cmp}
 use Rattle.std.specs.List.{list_all}
 use Rattle.std.specs.List.Sorted.{IsStrictlySortedBy}

@@ -4,7 +4,7 @@ use Rattle.cat_objects.specs.Catalogue.{Catalogue}
 use Rattle.cat_objects.specs.Changes.{done, done_op, takes_change}
 use Rattle.cat_types.specs.declared.changes.Change.{Change}
 use Rattle.cat_types.specs.declared.changes.Op.{Op}
-use Rattle.cat_types.specs.declared.changes.Op.TheVariants.{DropDb, DropPart, DropTable, MovePart, MoveTable, PutDb, PutPart, PutTable}
+use Rattle.cat_types.specs.declared.changes.Op.TheVariants.{PutPart}
 use Rattle.replicas.specs.Catalogues.{IsInOrder, objects_of}
 use Rattle.replicas.specs.Life.{HasDb}
 use Rattle.replicas.specs.Objects.{Name, Objects}

@@ -1,5 +1,5 @@
 -- Replicas in a store: events replayed on its catalogue and on the marks of a replica's objects.
-use Rattle.std.specs.Prelude.{◌≡◌, ℕ, Bool, true, false, ◌&&◌, List, [], ◌∷◌, if◌then◌else◌}
+use Rattle.std.specs.Prelude.{◌≡◌, ℕ, true, false, ◌&&◌, List, [], ◌∷◌, if◌then◌else◌}
 use Rattle.cat_objects.specs.Catalogue.{Catalogue, is_name}
 use Rattle.cat_objects.specs.Changes.{done_op}
 use Rattle.cat_objects.specs.Lawful.{finds, is_lawful}
