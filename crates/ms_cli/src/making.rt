@@ -6,7 +6,7 @@ ghost use Rattle.ms_cli.specs.Keeping.{seen};
 ghost use Rattle.ms_cli.specs.Local.{Made, Unmade};
 ghost use Rattle.ms_cli.specs.Telling.{Writes, made_line};
 ghost use Rattle.ms_session.specs.declared.end.End.{End};
-ghost use Rattle.ms_session.specs.Turns.{Files};
+ghost use Rattle.ms_session.specs.Turns.{Shelf};
 
 use crate::LocalEnd;
 use crate::local::refuse;
@@ -25,7 +25,7 @@ pub fn init<K: Sink, E: Sink, D: Disk>(
     disk_a: D,
     disk_b: D,
 ) -> LocalEnd<D>
-    ensures did { (left clock : Option (List ℕ)) (files : Option Files) → Made id (record { met = record { left = left; held = K.held output.old; clock = clock; files = files }; errors = record { held = E.held errors.old; faults = E.faults errors.old }; disk_a = seen D.lies D.past D.faults disk_a; disk_b = seen D.lies D.past D.faults disk_b }) (record { met = record { left = left; held = K.held output.new; clock = clock; files = files }; errors = record { held = E.held errors.new; faults = E.faults errors.new }; disk_a = seen D.lies D.past D.faults result.disk_a; disk_b = seen D.lies D.past D.faults result.disk_b }) result.status ⊎ Unmade (record { met = record { left = left; held = K.held output.old; clock = clock; files = files }; errors = record { held = E.held errors.old; faults = E.faults errors.old }; disk_a = seen D.lies D.past D.faults disk_a; disk_b = seen D.lies D.past D.faults disk_b }) (record { met = record { left = left; held = K.held output.new; clock = clock; files = files }; errors = record { held = E.held errors.new; faults = E.faults errors.new }; disk_a = seen D.lies D.past D.faults result.disk_a; disk_b = seen D.lies D.past D.faults result.disk_b }) result.status }
+    ensures did { (left clock : Option (List ℕ)) (shelf : Shelf) → Made id (record { met = record { left = left; held = K.held output.old; clock = clock; shelf = shelf }; errors = record { held = E.held errors.old; faults = E.faults errors.old }; disk_a = seen D.lies D.past D.faults disk_a; disk_b = seen D.lies D.past D.faults disk_b }) (record { met = record { left = left; held = K.held output.new; clock = clock; shelf = shelf }; errors = record { held = E.held errors.new; faults = E.faults errors.new }; disk_a = seen D.lies D.past D.faults result.disk_a; disk_b = seen D.lies D.past D.faults result.disk_b }) result.status ⊎ Unmade (record { met = record { left = left; held = K.held output.old; clock = clock; shelf = shelf }; errors = record { held = E.held errors.old; faults = E.faults errors.old }; disk_a = seen D.lies D.past D.faults disk_a; disk_b = seen D.lies D.past D.faults disk_b }) (record { met = record { left = left; held = K.held output.new; clock = clock; shelf = shelf }; errors = record { held = E.held errors.new; faults = E.faults errors.new }; disk_a = seen D.lies D.past D.faults result.disk_a; disk_b = seen D.lies D.past D.faults result.disk_b }) result.status }
     ensures write { result.status ≡ 4 → Rose (K.faults output.old) (K.faults output.new) }
     ensures disk { result.status ≡ 5 → Rose (D.faults disk_a) (D.faults result.disk_a) }
     ensures store { result.status ≡ 6 → IfSome (D.lies disk_a) (λ d. 0 < length d.held) }
