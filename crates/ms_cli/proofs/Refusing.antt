@@ -6,8 +6,8 @@ use Rattle.engine.specs.Keeping.{Kept}
 use Rattle.engine.specs.Opening.{IsBrokenStore}
 use Rattle.hms_outside.specs.Causes.{Rose}
 use Rattle.hms_outside.specs.Disks.{Lay, Lies, Went}
-use Rattle.ms_cli.specs.Keeping.{Disk, RefusesBytes}
-use Rattle.ms_cli.specs.Local.{NoStore, Outside, Unopened}
+use Rattle.ms_cli.specs.Keeping.{Disk, OpensNone, RefusesBytes}
+use Rattle.ms_cli.specs.Opened.{NoStore, Outside, Unopened}
 use Rattle.ms_cli.specs.Telling.{Lines, refusal_line, refusal_status}
 use Rattle.ms_cli.proofs.Keeps.{held_outage, stays_kept}
 use Rattle.ms_journal.specs.Faults.{IsOpeningFault, IsOutage}

@@ -1,17 +1,13 @@
 //! Dumping a database of the store that the disks hold.
 
-ghost use Rattle.std.specs.Prelude.{◌≡◌, ◌≢◌, ◌⊎◌, ◌≤◌, List, [], IfSome, Option, length, ℕ};
-ghost use Rattle.cat_types.specs.declared.steps.DumpRefusal.{DumpRefusal};
+ghost use Rattle.std.specs.Prelude.{◌≡◌, ◌≢◌, ◌⊎◌, ◌≤◌, List, [], Option, ℕ};
 ghost use Rattle.desk.specs.Adds.{Adds};
 ghost use Rattle.desk.specs.History.{Legal, NoneAbove};
-ghost use Rattle.engine.specs.Stores.{fault_number};
 ghost use Rattle.hms_outside.specs.Causes.{Rose};
-ghost use Rattle.ms_cli.specs.Dumping.{MakesDump, TellsDump, WasRefused, wanted_of};
-ghost use Rattle.ms_cli.specs.Keeping.{OpensNone, seen};
+ghost use Rattle.ms_cli.specs.Dumping.{MakesDump, TellsDump, wanted_of};
+ghost use Rattle.ms_cli.specs.Keeping.{Disk, seen};
 ghost use Rattle.ms_cli.specs.Opened.{Opened, Unopened, Worked};
-ghost use Rattle.ms_session.specs.Turns.{DumpedTo, Shelf, shelf_of};
-ghost use Rattle.repl_dump.specs.declared.dumping.DumpAnswer.{DumpAnswer};
-ghost use Rattle.repl_dump.specs.declared.dumping.DumpAnswer.TheVariants as dumped;
+ghost use Rattle.ms_session.specs.Turns.{DumpedTo, shelf_of};
 
 use crate::LocalEnd;
 use crate::closing::close;
@@ -37,14 +33,9 @@ pub fn dump<K: Sink, E: Sink, D: Disk, F: Folder>(
     disk_b: D,
     folder: &mut F,
 ) -> LocalEnd<D>
-    requires { length db.now ≤ 16777216 }
     ensures did { (left clock : Option (List ℕ)) → Opened (MakesDump (wanted_of db.now range) (record { met = record { left = left; held = K.held output.old; clock = clock; shelf = shelf_of (F.files folder.old) (F.faults folder.old) }; errors = record { held = E.held errors.old; faults = E.faults errors.old }; disk_a = seen D.lies D.past D.faults disk_a; disk_b = seen D.lies D.past D.faults disk_b }) (record { met = record { left = left; held = K.held output.new; clock = clock; shelf = shelf_of (F.files folder.new) (F.faults folder.new) }; errors = record { held = E.held errors.new; faults = E.faults errors.new }; disk_a = seen D.lies D.past D.faults result.disk_a; disk_b = seen D.lies D.past D.faults result.disk_b }) result.status) (record { met = record { left = left; held = K.held output.old; clock = clock; shelf = shelf_of (F.files folder.old) (F.faults folder.old) }; errors = record { held = E.held errors.old; faults = E.faults errors.old }; disk_a = seen D.lies D.past D.faults disk_a; disk_b = seen D.lies D.past D.faults disk_b }) (record { met = record { left = left; held = K.held output.new; clock = clock; shelf = shelf_of (F.files folder.new) (F.faults folder.new) }; errors = record { held = E.held errors.new; faults = E.faults errors.new }; disk_a = seen D.lies D.past D.faults result.disk_a; disk_b = seen D.lies D.past D.faults result.disk_b }) ⊎ Unopened (record { met = record { left = left; held = K.held output.old; clock = clock; shelf = shelf_of (F.files folder.old) (F.faults folder.old) }; errors = record { held = E.held errors.old; faults = E.faults errors.old }; disk_a = seen D.lies D.past D.faults disk_a; disk_b = seen D.lies D.past D.faults disk_b }) (record { met = record { left = left; held = K.held output.new; clock = clock; shelf = shelf_of (F.files folder.new) (F.faults folder.new) }; errors = record { held = E.held errors.new; faults = E.faults errors.new }; disk_a = seen D.lies D.past D.faults result.disk_a; disk_b = seen D.lies D.past D.faults result.disk_b }) result.status }
     ensures others { (result.status ≢ 2) × (result.status ≢ 3) }
     ensures write { result.status ≡ 4 → Rose (K.faults output.old) (K.faults output.new) }
-    ensures disk { result.status ≡ 5 → Rose (fault_number (D.faults disk_a) (D.faults disk_b)) (fault_number (D.faults result.disk_a) (D.faults result.disk_b)) }
-    ensures store { result.status ≡ 6 → IfSome (D.lies disk_a) (λ d. OpensNone d.held) }
-    ensures refused { (left clock : Option (List ℕ)) → result.status ≡ 9 → WasRefused (record { met = record { left = left; held = K.held output.old; clock = clock; shelf = shelf_of (F.files folder.old) (F.faults folder.old) }; errors = record { held = E.held errors.old; faults = E.faults errors.old }; disk_a = seen D.lies D.past D.faults disk_a; disk_b = seen D.lies D.past D.faults disk_b }) (record { met = record { left = left; held = K.held output.new; clock = clock; shelf = shelf_of (F.files folder.new) (F.faults folder.new) }; errors = record { held = E.held errors.new; faults = E.faults errors.new }; disk_a = seen D.lies D.past D.faults result.disk_a; disk_b = seen D.lies D.past D.faults result.disk_b }) }
-    ensures folder { result.status ≡ 11 → Rose (F.faults folder.old) (F.faults folder.new) }
     ensures folder_later { F.faults folder.old ≤ F.faults folder.new }
     ensures output_stays { result.status ≢ 4 → K.faults output.new ≡ K.faults output.old }
 {
@@ -64,10 +55,9 @@ fn dump_at<K: Sink, E: Sink, D: Disk, F: Folder>(
     engine: Engine<D>,
     folder: &mut F,
 ) -> LocalEnd<D>
-    requires fresh { engine.history ≡ [] }
-    requires short { length db.now ≤ 16777216 }
-    ensures worked { (left clock : Option (List ℕ)) → Worked (MakesDump (wanted_of db.now range) (record { met = record { left = left; held = K.held output.old; clock = clock; shelf = shelf_of (F.files folder.old) (F.faults folder.old) }; errors = record { held = E.held errors.old; faults = E.faults errors.old }; disk_a = seen D.lies D.past D.faults engine.disk_a; disk_b = seen D.lies D.past D.faults engine.disk_b }) (record { met = record { left = left; held = K.held output.new; clock = clock; shelf = shelf_of (F.files folder.new) (F.faults folder.new) }; errors = record { held = E.held errors.new; faults = E.faults errors.new }; disk_a = seen D.lies D.past D.faults result.disk_a; disk_b = seen D.lies D.past D.faults result.disk_b }) result.status) engine.start (seen D.lies D.past D.faults result.disk_a) (seen D.lies D.past D.faults result.disk_b) }
-    ensures others { ((result.status ≢ 2) × (result.status ≢ 3)) × (result.status ≢ 6) }
+    requires { engine.history ≡ [] }
+    ensures worked { (left clock : Option (List ℕ)) (a b : Disk) → Worked (MakesDump (wanted_of db.now range) (record { met = record { left = left; held = K.held output.old; clock = clock; shelf = shelf_of (F.files folder.old) (F.faults folder.old) }; errors = record { held = E.held errors.old; faults = E.faults errors.old }; disk_a = a; disk_b = b }) (record { met = record { left = left; held = K.held output.new; clock = clock; shelf = shelf_of (F.files folder.new) (F.faults folder.new) }; errors = record { held = E.held errors.new; faults = E.faults errors.new }; disk_a = seen D.lies D.past D.faults result.disk_a; disk_b = seen D.lies D.past D.faults result.disk_b }) result.status) engine.start (seen D.lies D.past D.faults result.disk_a) (seen D.lies D.past D.faults result.disk_b) }
+    ensures others { (result.status ≢ 2) × (result.status ≢ 3) }
     ensures write { result.status ≡ 4 → Rose (K.faults output.old) (K.faults output.new) }
     ensures folder_later { F.faults folder.old ≤ F.faults folder.new }
     ensures output_stays { result.status ≢ 4 → K.faults output.new ≡ K.faults output.old }
@@ -83,7 +73,8 @@ fn dump_at<K: Sink, E: Sink, D: Disk, F: Folder>(
     }
 }
 
-// Dumps the database with this name.
+// Dumps the database with this name. One that is too long for a text, which no words of a command have,
+// counts as want of memory.
 fn dump_named<K: Desk, F: Folder>(
     alloc: Global,
     desk: &mut K,
@@ -91,7 +82,6 @@ fn dump_named<K: Desk, F: Folder>(
     db: &str,
     range: EventRange,
 ) -> DumpAnswer
-    requires { length db.now ≤ 16777216 }
     ensures start { K.start desk.new ≡ K.start desk.old }
     ensures legal { Legal (K.start desk.old) (K.history desk.old) → Legal (K.start desk.new) (K.history desk.new) }
     ensures counted { NoneAbove (K.faults desk.old) (K.history desk.old) → NoneAbove (K.faults desk.new) (K.history desk.new) }
@@ -112,7 +102,7 @@ fn tell_dump<K: Sink, E: Sink>(
     answer: DumpAnswer,
 ) -> u8
     ensures told { TellsDump answer (K.held output.old) (K.held output.new) (record { held = E.held errors.old; faults = E.faults errors.old }) (record { held = E.held errors.new; faults = E.faults errors.new }) result }
-    ensures others { ((result ≢ 2) × (result ≢ 3)) × (result ≢ 6) }
+    ensures others { (result ≢ 2) × (result ≢ 3) }
     ensures write { result ≡ 4 → Rose (K.faults output.old) (K.faults output.new) }
     ensures output_stays { result ≢ 4 → K.faults output.new ≡ K.faults output.old }
 {

@@ -5,7 +5,7 @@ ghost use Rattle.engine.specs.Stores.{fault_number};
 ghost use Rattle.hms_outside.specs.Causes.{Rose};
 ghost use Rattle.ms_cli.specs.Dumping.{WasRefused};
 ghost use Rattle.ms_cli.specs.Keeping.{RefusesStore, seen};
-ghost use Rattle.ms_cli.specs.Local.{Runs};
+ghost use Rattle.ms_cli.specs.Local.{Did, Runs};
 ghost use Rattle.ms_cli.specs.Telling.{Lines, refusal_line, refusal_status};
 ghost use Rattle.ms_cli.specs.Words.{Names};
 ghost use Rattle.ms_cli.specs.declared.words.Command.{Command};
@@ -79,7 +79,46 @@ pub fn run_local<S: Source, K: Sink, E: Sink, D: Disk, F: Folder, C: Clock>(
     ensures disk_a { result.status ≡ 2 → result.disk_a ≡ disk_a }
     ensures disk_b { result.status ≡ 2 → result.disk_b ≡ disk_b }
 {
-    match read_words(words) {
+    perform(
+        alloc,
+        read_words(words),
+        input,
+        output,
+        errors,
+        disk_a,
+        disk_b,
+        folder,
+        clock,
+    )
+}
+
+// Does a command.
+fn perform<'a, S: Source, K: Sink, E: Sink, D: Disk, F: Folder, C: Clock>(
+    alloc: Global,
+    command: Command<'a>,
+    input: &mut S,
+    output: &mut K,
+    errors: &mut E,
+    disk_a: D,
+    disk_b: D,
+    folder: &mut F,
+    clock: &mut C,
+) -> LocalEnd<D>
+    ensures did { Did command.entry (record { met = record { left = S.left input.old; held = K.held output.old; clock = C.moments clock.old; shelf = shelf_of (F.files folder.old) (F.faults folder.old) }; errors = record { held = E.held errors.old; faults = E.faults errors.old }; disk_a = seen D.lies D.past D.faults disk_a; disk_b = seen D.lies D.past D.faults disk_b }) (record { met = record { left = S.left input.new; held = K.held output.new; clock = C.moments clock.new; shelf = shelf_of (F.files folder.new) (F.faults folder.new) }; errors = record { held = E.held errors.new; faults = E.faults errors.new }; disk_a = seen D.lies D.past D.faults result.disk_a; disk_b = seen D.lies D.past D.faults result.disk_b }) result.status }
+    ensures usage { result.status ≡ 2 → (usage : Usage) × (command.entry ≡ Wrong usage) }
+    ensures read { result.status ≡ 3 → Rose (S.faults input.old) (S.faults input.new) }
+    ensures write { result.status ≡ 4 → Rose (K.faults output.old) (K.faults output.new) }
+    ensures input_stays { result.status ≢ 3 → S.faults input.new ≡ S.faults input.old }
+    ensures output_stays { result.status ≢ 4 → K.faults output.new ≡ K.faults output.old }
+    ensures folder_later { F.faults folder.old ≤ F.faults folder.new }
+    ensures input { result.status ≡ 2 → input.new ≡ input.old }
+    ensures output { result.status ≡ 2 → output.new ≡ output.old }
+    ensures clock { result.status ≡ 2 → clock.new ≡ clock.old }
+    ensures folder_stays { result.status ≡ 2 → folder.new ≡ folder.old }
+    ensures disk_a { result.status ≡ 2 → result.disk_a ≡ disk_a }
+    ensures disk_b { result.status ≡ 2 → result.disk_b ≡ disk_b }
+{
+    match command {
         Command::Pipe => pipe(alloc, input, output, errors, disk_a, disk_b, folder, clock),
         Command::Init(id) => init(alloc, id, output, errors, disk_a, disk_b),
         Command::Dump { db, range } => {

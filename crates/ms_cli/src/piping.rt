@@ -1,8 +1,8 @@
 //! Serving a session at the store that the disks hold.
 
-ghost use Rattle.std.specs.Prelude.{◌≡◌, ◌≢◌, ◌⊎◌, ◌≤◌, [], IfSome};
+ghost use Rattle.std.specs.Prelude.{◌≡◌, ◌≢◌, ◌⊎◌, ◌≤◌, []};
 ghost use Rattle.hms_outside.specs.Causes.{Rose};
-ghost use Rattle.ms_cli.specs.Keeping.{OpensNone, seen};
+ghost use Rattle.ms_cli.specs.Keeping.{Disk, seen};
 ghost use Rattle.ms_cli.specs.Local.{Serves};
 ghost use Rattle.ms_cli.specs.Opened.{Opened, Unopened, Worked};
 ghost use Rattle.ms_session.specs.Turns.{shelf_of};
@@ -29,11 +29,9 @@ pub fn pipe<S: Source, K: Sink, E: Sink, D: Disk, F: Folder, C: Clock>(
     clock: &mut C,
 ) -> LocalEnd<D>
     ensures did { Opened (Serves (record { met = record { left = S.left input.old; held = K.held output.old; clock = C.moments clock.old; shelf = shelf_of (F.files folder.old) (F.faults folder.old) }; errors = record { held = E.held errors.old; faults = E.faults errors.old }; disk_a = seen D.lies D.past D.faults disk_a; disk_b = seen D.lies D.past D.faults disk_b }) (record { met = record { left = S.left input.new; held = K.held output.new; clock = C.moments clock.new; shelf = shelf_of (F.files folder.new) (F.faults folder.new) }; errors = record { held = E.held errors.new; faults = E.faults errors.new }; disk_a = seen D.lies D.past D.faults result.disk_a; disk_b = seen D.lies D.past D.faults result.disk_b }) result.status) (record { met = record { left = S.left input.old; held = K.held output.old; clock = C.moments clock.old; shelf = shelf_of (F.files folder.old) (F.faults folder.old) }; errors = record { held = E.held errors.old; faults = E.faults errors.old }; disk_a = seen D.lies D.past D.faults disk_a; disk_b = seen D.lies D.past D.faults disk_b }) (record { met = record { left = S.left input.new; held = K.held output.new; clock = C.moments clock.new; shelf = shelf_of (F.files folder.new) (F.faults folder.new) }; errors = record { held = E.held errors.new; faults = E.faults errors.new }; disk_a = seen D.lies D.past D.faults result.disk_a; disk_b = seen D.lies D.past D.faults result.disk_b }) ⊎ Unopened (record { met = record { left = S.left input.old; held = K.held output.old; clock = C.moments clock.old; shelf = shelf_of (F.files folder.old) (F.faults folder.old) }; errors = record { held = E.held errors.old; faults = E.faults errors.old }; disk_a = seen D.lies D.past D.faults disk_a; disk_b = seen D.lies D.past D.faults disk_b }) (record { met = record { left = S.left input.new; held = K.held output.new; clock = C.moments clock.new; shelf = shelf_of (F.files folder.new) (F.faults folder.new) }; errors = record { held = E.held errors.new; faults = E.faults errors.new }; disk_a = seen D.lies D.past D.faults result.disk_a; disk_b = seen D.lies D.past D.faults result.disk_b }) result.status }
-    ensures others { (result.status ≢ 2) × ((result.status ≢ 9) × (result.status ≢ 11)) }
+    ensures no_usage { result.status ≢ 2 }
     ensures read { result.status ≡ 3 → Rose (S.faults input.old) (S.faults input.new) }
     ensures write { result.status ≡ 4 → Rose (K.faults output.old) (K.faults output.new) }
-    ensures disk { result.status ≡ 5 → Rose (D.faults disk_a) (D.faults result.disk_a) }
-    ensures store { result.status ≡ 6 → IfSome (D.lies disk_a) (λ d. OpensNone d.held) }
     ensures input_stays { result.status ≢ 3 → S.faults input.new ≡ S.faults input.old }
     ensures output_stays { result.status ≢ 4 → K.faults output.new ≡ K.faults output.old }
     ensures folder_later { F.faults folder.old ≤ F.faults folder.new }
@@ -55,8 +53,8 @@ fn serve<S: Source, K: Sink, E: Sink, D: Disk, F: Folder, C: Clock>(
     clock: &mut C,
 ) -> LocalEnd<D>
     requires { engine.history ≡ [] }
-    ensures worked { Worked (Serves (record { met = record { left = S.left input.old; held = K.held output.old; clock = C.moments clock.old; shelf = shelf_of (F.files folder.old) (F.faults folder.old) }; errors = record { held = E.held errors.old; faults = E.faults errors.old }; disk_a = seen D.lies D.past D.faults engine.disk_a; disk_b = seen D.lies D.past D.faults engine.disk_b }) (record { met = record { left = S.left input.new; held = K.held output.new; clock = C.moments clock.new; shelf = shelf_of (F.files folder.new) (F.faults folder.new) }; errors = record { held = E.held errors.new; faults = E.faults errors.new }; disk_a = seen D.lies D.past D.faults result.disk_a; disk_b = seen D.lies D.past D.faults result.disk_b }) result.status) engine.start (seen D.lies D.past D.faults result.disk_a) (seen D.lies D.past D.faults result.disk_b) }
-    ensures others { ((result.status ≢ 2) × ((result.status ≢ 9) × (result.status ≢ 11))) × ((result.status ≢ 5) × (result.status ≢ 6)) }
+    ensures worked { (a b : Disk) → Worked (Serves (record { met = record { left = S.left input.old; held = K.held output.old; clock = C.moments clock.old; shelf = shelf_of (F.files folder.old) (F.faults folder.old) }; errors = record { held = E.held errors.old; faults = E.faults errors.old }; disk_a = a; disk_b = b }) (record { met = record { left = S.left input.new; held = K.held output.new; clock = C.moments clock.new; shelf = shelf_of (F.files folder.new) (F.faults folder.new) }; errors = record { held = E.held errors.new; faults = E.faults errors.new }; disk_a = seen D.lies D.past D.faults result.disk_a; disk_b = seen D.lies D.past D.faults result.disk_b }) result.status) engine.start (seen D.lies D.past D.faults result.disk_a) (seen D.lies D.past D.faults result.disk_b) }
+    ensures no_usage { result.status ≢ 2 }
     ensures read { result.status ≡ 3 → Rose (S.faults input.old) (S.faults input.new) }
     ensures write { result.status ≡ 4 → Rose (K.faults output.old) (K.faults output.new) }
     ensures input_stays { result.status ≢ 3 → S.faults input.new ≡ S.faults input.old }

@@ -1,9 +1,8 @@
 //! Taking off kept events of the store that the disks hold.
 
-ghost use Rattle.std.specs.Prelude.{◌≡◌, ◌≢◌, ◌⊎◌, List, [], IfSome, Option, ℕ};
-ghost use Rattle.engine.specs.Stores.{fault_number};
+ghost use Rattle.std.specs.Prelude.{◌≡◌, ◌≢◌, ◌⊎◌, List, [], Option, ℕ};
 ghost use Rattle.hms_outside.specs.Causes.{Rose};
-ghost use Rattle.ms_cli.specs.Keeping.{OpensNone, seen};
+ghost use Rattle.ms_cli.specs.Keeping.{Disk, seen};
 ghost use Rattle.ms_cli.specs.Opened.{Opened, Unopened, Worked};
 ghost use Rattle.ms_cli.specs.Trimming.{TellsTrim, Trims};
 ghost use Rattle.ms_session.specs.DumpReplies.{AnswersTrim};
@@ -30,10 +29,8 @@ pub fn trim<K: Sink, E: Sink, D: Disk>(
     disk_b: D,
 ) -> LocalEnd<D>
     ensures did { (left clock : Option (List ℕ)) (shelf : Shelf) → Opened (Trims upto (record { met = record { left = left; held = K.held output.old; clock = clock; shelf = shelf }; errors = record { held = E.held errors.old; faults = E.faults errors.old }; disk_a = seen D.lies D.past D.faults disk_a; disk_b = seen D.lies D.past D.faults disk_b }) (record { met = record { left = left; held = K.held output.new; clock = clock; shelf = shelf }; errors = record { held = E.held errors.new; faults = E.faults errors.new }; disk_a = seen D.lies D.past D.faults result.disk_a; disk_b = seen D.lies D.past D.faults result.disk_b }) result.status) (record { met = record { left = left; held = K.held output.old; clock = clock; shelf = shelf }; errors = record { held = E.held errors.old; faults = E.faults errors.old }; disk_a = seen D.lies D.past D.faults disk_a; disk_b = seen D.lies D.past D.faults disk_b }) (record { met = record { left = left; held = K.held output.new; clock = clock; shelf = shelf }; errors = record { held = E.held errors.new; faults = E.faults errors.new }; disk_a = seen D.lies D.past D.faults result.disk_a; disk_b = seen D.lies D.past D.faults result.disk_b }) ⊎ Unopened (record { met = record { left = left; held = K.held output.old; clock = clock; shelf = shelf }; errors = record { held = E.held errors.old; faults = E.faults errors.old }; disk_a = seen D.lies D.past D.faults disk_a; disk_b = seen D.lies D.past D.faults disk_b }) (record { met = record { left = left; held = K.held output.new; clock = clock; shelf = shelf }; errors = record { held = E.held errors.new; faults = E.faults errors.new }; disk_a = seen D.lies D.past D.faults result.disk_a; disk_b = seen D.lies D.past D.faults result.disk_b }) result.status }
-    ensures others { ((result.status ≢ 2) × (result.status ≢ 3)) × ((result.status ≢ 9) × (result.status ≢ 11)) }
+    ensures others { (result.status ≢ 2) × (result.status ≢ 3) }
     ensures write { result.status ≡ 4 → Rose (K.faults output.old) (K.faults output.new) }
-    ensures disk { result.status ≡ 5 → Rose (fault_number (D.faults disk_a) (D.faults disk_b)) (fault_number (D.faults result.disk_a) (D.faults result.disk_b)) }
-    ensures store { result.status ≡ 6 → IfSome (D.lies disk_a) (λ d. OpensNone d.held) }
     ensures output_stays { result.status ≢ 4 → K.faults output.new ≡ K.faults output.old }
 {
     match Engine::open_store(alloc, disk_a, disk_b) {
@@ -51,9 +48,9 @@ fn trim_at<K: Sink, E: Sink, D: Disk>(
     errors: &mut E,
     mut engine: Engine<D>,
 ) -> LocalEnd<D>
-    requires fresh { engine.history ≡ [] }
-    ensures worked { (left clock : Option (List ℕ)) (shelf : Shelf) → Worked (Trims upto (record { met = record { left = left; held = K.held output.old; clock = clock; shelf = shelf }; errors = record { held = E.held errors.old; faults = E.faults errors.old }; disk_a = seen D.lies D.past D.faults engine.disk_a; disk_b = seen D.lies D.past D.faults engine.disk_b }) (record { met = record { left = left; held = K.held output.new; clock = clock; shelf = shelf }; errors = record { held = E.held errors.new; faults = E.faults errors.new }; disk_a = seen D.lies D.past D.faults result.disk_a; disk_b = seen D.lies D.past D.faults result.disk_b }) result.status) engine.start (seen D.lies D.past D.faults result.disk_a) (seen D.lies D.past D.faults result.disk_b) }
-    ensures others { (((result.status ≢ 2) × (result.status ≢ 3)) × ((result.status ≢ 9) × (result.status ≢ 11))) × (result.status ≢ 6) }
+    requires { engine.history ≡ [] }
+    ensures worked { (left clock : Option (List ℕ)) (shelf : Shelf) (a b : Disk) → Worked (Trims upto (record { met = record { left = left; held = K.held output.old; clock = clock; shelf = shelf }; errors = record { held = E.held errors.old; faults = E.faults errors.old }; disk_a = a; disk_b = b }) (record { met = record { left = left; held = K.held output.new; clock = clock; shelf = shelf }; errors = record { held = E.held errors.new; faults = E.faults errors.new }; disk_a = seen D.lies D.past D.faults result.disk_a; disk_b = seen D.lies D.past D.faults result.disk_b }) result.status) engine.start (seen D.lies D.past D.faults result.disk_a) (seen D.lies D.past D.faults result.disk_b) }
+    ensures others { (result.status ≢ 2) × (result.status ≢ 3) }
     ensures write { result.status ≡ 4 → Rose (K.faults output.old) (K.faults output.new) }
     ensures output_stays { result.status ≢ 4 → K.faults output.new ≡ K.faults output.old }
 {
@@ -76,7 +73,7 @@ fn tell_trim<K: Sink, E: Sink>(
 ) -> u8
     requires { AnswersTrim answer }
     ensures told { TellsTrim answer (K.held output.old) (K.held output.new) (record { held = E.held errors.old; faults = E.faults errors.old }) (record { held = E.held errors.new; faults = E.faults errors.new }) result }
-    ensures others { (((result ≢ 2) × (result ≢ 3)) × ((result ≢ 9) × (result ≢ 11))) × (result ≢ 6) }
+    ensures others { (result ≢ 2) × (result ≢ 3) }
     ensures write { result ≡ 4 → Rose (K.faults output.old) (K.faults output.new) }
     ensures output_stays { result ≢ 4 → K.faults output.new ≡ K.faults output.old }
 {
