@@ -52,7 +52,7 @@ unopened fault old new status left same kind foreign broken cause outage stays w
 }
 
 -- status 6 is for the bytes
-opening_6 : (fault : OpenFault) (c : List ℕ) → IsOpeningFault fault → refusal_status fault ≡ 6 → RefusesBytes fault c → IsForeign c ⊎ ((at : ℕ) × IsBrokenStore at c)
+opening_6 : (fault : OpenFault) (c : List ℕ) → IsOpeningFault fault → refusal_status fault ≡ 6 → RefusesBytes fault c → OpensNone c
 opening_6 NotEmpty c kind is due = absurd kind
 opening_6 Foreign c kind is due = inl due
 opening_6 (Broken at) c kind is due = inr (at, due)
@@ -60,7 +60,6 @@ opening_6 DiskFault c kind is due = absurd cc
 opening_6 NoMemory c kind is due = absurd cc
 
 -- what status 6 says of the bytes
-pub opening_store : (fault : OpenFault) (lies : Option Lies) (status : ℕ) → IsOpeningFault fault → (fault ≡ Foreign → IfSome lies (λ d. IsForeign d.held)) → ((at : ℕ) → fault ≡ Broken at → IfSome lies (λ d. IsBrokenStore at d.held))
-    → status ≡ refusal_status fault → status ≡ 6 → IfSome lies (λ d. IsForeign d.held ⊎ ((at : ℕ) × IsBrokenStore at d.held))
-opening_store fault None status kind foreign broken is six = tt
-opening_store fault (Some d) status kind foreign broken is six = opening_6 fault d.held kind (sym is ∙ six) (opening_bytes fault (Some d) kind foreign broken)
+pub store_6 : (fault : OpenFault) (lies : Option Lies) → IsOpeningFault fault → refusal_status fault ≡ 6 → IfSome lies (λ d. RefusesBytes fault d.held) → IfSome lies (λ d. OpensNone d.held)
+store_6 fault None kind is due = tt
+store_6 fault (Some d) kind is due = opening_6 fault d.held kind is due
