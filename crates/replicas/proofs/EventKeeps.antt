@@ -38,7 +38,7 @@ quiet_still Sound after ops made newest source at e from to quiet k low high = n
 
 module _ (Sound : Op → Type 0) (after : ℕ → Objects) (ops : ℕ → List Op) (made newest begin e end : ℕ) (source : Source Sound after ops made newest) (no_moves : NoMoves ops begin end)
     (from : made ≤ begin) (to : end ≤ newest) (begun : begin ≤ e) (within : e + 1 ≤ end) where
-  one_keeps : (op : Op) (later : List Op) (s t : Objects) (r q : Replica) → Step (e + 1) op s t → Each (IsApart op) later → Steps (e + 1) later t (after (e + 1)) → IsNoMove op → Sound op
+  pub one_keeps : (op : Op) (later : List Op) (s t : Objects) (r q : Replica) → Step (e + 1) op s t → Each (IsApart op) later → Steps (e + 1) later t (after (e + 1)) → IsNoMove op → Sound op
       → WellHeld s → BornsUpTo (e + 1) s → Between after e end s r → Replays Sound (e + 1) op r q → Between after e end t q
   one_keeps (PutDb rec) later s t r q step apart steps nm sound held borns between replays =
       put_db_keeps Sound after e end s t r q rec within sound (lasts_db (e + 1) (PutDb rec) later t (after (e + 1)) apart steps db_stays tt) step.done between replays

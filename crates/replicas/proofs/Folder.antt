@@ -13,10 +13,10 @@ use Rattle.replicas.proofs.LiveKeeps.{live_event}
 abbrev pub IsNext : ℕ → ℕ → Type 0
 IsNext at n = (e : ℕ) × (e + 1 ≡ n) × (at ≤ e)
 
-is_next : (at n : ℕ) → at < n → IsNext at n
+pub is_next : (at n : ℕ) → at < n → IsNext at n
 is_next at n lt = (n - 1, omega (arith, lt), omega (arith, lt))
 
-quiet_to : (ops : ℕ → List Op) (at e n : ℕ) → e + 1 ≡ n → ((k : ℕ) → at < k → k < n → ops k ≡ []) → Quiet ops at e
+pub quiet_to : (ops : ℕ → List Op) (at e n : ℕ) → e + 1 ≡ n → ((k : ℕ) → at < k → k < n → ops k ≡ []) → Quiet ops at e
 quiet_to ops at e n is quiet k lt le = quiet k lt (omega (arith, is, le))
 
 pub keeps_event : EventKeeps

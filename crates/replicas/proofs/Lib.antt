@@ -29,3 +29,5 @@ pub mod Histories
 pub mod Calls
 pub mod Stores
 pub mod Equality
+pub mod Marking
+pub mod NewerParts

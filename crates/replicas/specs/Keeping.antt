@@ -1,5 +1,5 @@
 -- What replayed events leave as it is.
-use Rattle.std.specs.Prelude.{◌≡◌, ℕ, ◌≤◌, Some}
+use Rattle.std.specs.Prelude.{◌≡◌, ◌⊎◌, ℕ, ◌≤◌, Some}
 use Rattle.cat_values.specs.declared.records.PartRec.{PartRec}
 use Rattle.replicas.specs.Objects.{Name, Values, Table, Objects, Has, Replica}
 
@@ -33,3 +33,15 @@ pub record MarksGrow (r r' : Replica) : Type 0 where
   pub db : r.marks.db ≤ r'.marks.db
   pub tables : (n : Name) (x y : Table) → r.objects.tab n ≡ Some x → r'.objects.tab n ≡ Some y → r.marks.tab n ≤ r'.marks.tab n
   pub parts : (n : Name) (w : Values) (p q : PartRec) → r.objects.par n w ≡ Some p → r'.objects.par n w ≡ Some q → r.marks.par n w ≤ r'.marks.par n w
+
+-- a partition behind is one that was there, with the mark that it had, under the name that its table has now or under another one
+pub record IsOld (n : Name) (w : Values) (p : PartRec) (r r' : Replica) : Type 0 where
+  pub name : Name
+  pub object : r.objects.par name w ≡ Some p
+  pub mark : r'.marks.par n w ≡ r.marks.par name w
+
+-- what isn't as it was has the mark e, but for partitions that moved along with their table
+pub record MarksTell (e : ℕ) (r r' : Replica) : Type 0 where
+  pub db : SameDb r r' ⊎ (r'.marks.db ≡ e)
+  pub tables : (n : Name) (x : Table) → r'.objects.tab n ≡ Some x → SameTable n r r' ⊎ (r'.marks.tab n ≡ e)
+  pub parts : (n : Name) (w : Values) (p : PartRec) → r'.objects.par n w ≡ Some p → IsOld n w p r r' ⊎ (r'.marks.par n w ≡ e)

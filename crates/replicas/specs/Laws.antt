@@ -1,11 +1,12 @@
 -- The laws on replayed events.
-use Rattle.std.specs.Prelude.{◌≡◌, ℕ, ◌<◌, ◌≤◌, Bool, true, List, [], ◌++◌, filter}
+use Rattle.std.specs.Prelude.{◌≡◌, ℕ, ◌<◌, ◌≤◌, Bool, true, List, [], ◌++◌, Some, filter}
 use Rattle.std.specs.List.{AllByRecursion}
 use Rattle.cat_types.specs.declared.changes.Change.{Change}
 use Rattle.cat_types.specs.declared.changes.Event.{Event}
 use Rattle.cat_types.specs.declared.changes.Op.{Op}
-use Rattle.replicas.specs.Objects.{Name, Objects, Replica, SameMarks, SameObjects}
-use Rattle.replicas.specs.Keeping.{IsRooted, KeepsNewer, MarksGrow}
+use Rattle.replicas.specs.Objects.{Name, Objects, Replica, SameMarks, SameObjects, Values}
+use Rattle.cat_values.specs.declared.records.PartRec.{PartRec}
+use Rattle.replicas.specs.Keeping.{IsRooted, KeepsNewer, MarksGrow, MarksTell, SamePart}
 use Rattle.replicas.specs.Life.{HasDb, Life, ops_of, AreNumbered, is_of, is_above}
 use Rattle.replicas.specs.Source.{AllApart, Source, NoMoves}
 use Rattle.replicas.specs.Stands.{StandsEvents, StandsLive, ReplaysAll, ReplaysEvents, Quiet, AreEvents, reached}
@@ -90,3 +91,14 @@ RepeatedReplaysDoNothing = (test : Op → Bool) (e : ℕ) (ops : List Op) (r q q
 -- where each partition stands under a table, no mark falls by an event whose operations are apart, and each partition still stands under a table
 abbrev pub MarksNeverFall : Type 0
 MarksNeverFall = (test : Op → Bool) (e : ℕ) (ops : List Op) (r r' : Replica) → AllApart ops → IsRooted r.objects → ReplaysAll (Passes test) e ops r r' → MarksGrow r r' × IsRooted r'.objects
+
+-- behind event e what isn't as it was has the mark e
+abbrev pub MarksTellChanges : Type 0
+MarksTellChanges = (test : Op → Bool) (e : ℕ) (ops : List Op) (r r' : Replica) → ReplaysAll (Passes test) e ops r r' → MarksTell e r r'
+
+-- the next event leaves each partition of a half-loaded replica that has its number for a mark or a greater one, whatever its table's mark
+abbrev pub NewerPartsStay : Type 0
+NewerPartsStay = (test : Op → Bool) (after : ℕ → Objects) (ops : ℕ → List Op) (made newest begin at n end : ℕ) (r r' : Replica)
+    → Source (Passes test) after ops made newest → NoMoves ops begin end → made ≤ begin → end ≤ newest → at < n → n ≤ end → ((k : ℕ) → at < k → k < n → ops k ≡ [])
+    → ReplaysAll (Passes test) n (ops n) r r' → StandsEvents after begin at end r
+    → (m : Name) (w : Values) (p : PartRec) → r.objects.par m w ≡ Some p → n ≤ r.marks.par m w → SamePart m w r r'
