@@ -1,12 +1,15 @@
 -- What a call changes is apart, and a new store is new.
-use Rattle.std.proofs.Common.{◌≡◌, ◌⊎◌, inl, inr, Bool, true, false, ◌||◌, List, [], ◌∷◌, Some, None, cond, refl, sym, ◌∙◌, ap}
+use Rattle.std.proofs.Common.{◌≡◌, ◌⊎◌, inl, inr, Bool, true, false, ◌||◌, List, [], ◌∷◌, Option, Some, None, cond, refl, sym, ◌∙◌, ap, subst}
 use Rattle.std.specs.Prelude.{codes}
 use Rattle.std.specs.Cmp.Lexicographic.{slice_cmp}
-use Rattle.std.specs.List.{list_all}
+use Rattle.std.specs.List.{AllByRecursion, list_all}
+use Rattle.std.specs.Map.{lookup}
 use Rattle.std.specs.List.Sorted.{IsStrictlySortedBy}
 use Rattle.std.specs.Ordering.{nat_cmp}
-use Rattle.cat_objects.specs.Catalogue.{at_name, empty_database, is_name, parts_of, tables_of}
+use Rattle.cat_objects.specs.Catalogue.{at_name, database, empty_database, is_name, parts_of, tables_of}
 use Rattle.cat_objects.specs.Changes.{are_puts, is_any, is_one, puts_under}
+use Rattle.cat_objects.specs.declared.held.HeldDb.{HeldDb}
+use Rattle.cat_objects.specs.declared.held.HeldTable.{HeldTable}
 use Rattle.cat_objects.proofs.Rising.{none_rise}
 use Rattle.cat_objects.proofs.Taking.{first_of, last_of}
 use Rattle.cat_types.specs.declared.changes.Op.{Op}
@@ -16,7 +19,7 @@ use Rattle.replicas.specs.Histories.{OtherValues, ValuesDiffer}
 use Rattle.replicas.specs.Life.{HasDb}
 use Rattle.replicas.specs.Objects.{Name}
 use Rattle.replicas.specs.Source.{AllApart, Each, IsApart}
-use Rattle.replicas.specs.StoreLaws.{CallsAreApart, NewStoresAreNew}
+use Rattle.replicas.specs.StoreLaws.{CallsAreApart, NewStoresAreNew, RisingIsInOrder}
 use Rattle.replicas.proofs.TablesDone.{Rises, ValuesRise}
 
 -- ---- puts of partitions
@@ -128,4 +131,45 @@ new_stores = record {
     tables = λ w. rise_by (is_name w (codes "default"));
     parts = λ w n. parts_by (is_name w (codes "default")) n;
   };
+}
+
+-- ---- rising entries
+
+found_all : {K X : Type 0} (P : X → Type 0) (test : K → Bool) (es : List (K × X)) → AllByRecursion (λ e. P e.1) es → (x : X) → lookup test es ≡ Some x → P x
+found_all P test [] all x is = absurd cc
+found_all {X = X} P test (e ∷ es) all x is = by (test e.0) is (found_all P test es all.1 x)
+  where
+    by : (b : Bool) → cond b (Some e.1) (lookup test es) ≡ Some x → (lookup test es ≡ Some x → P x) → P x
+    by true here more = subst P (inside e.1 x here) all.0
+      where
+        inside : (a b : X) → Some a ≡ Some b → a ≡ b
+        inside a b f = cc
+    by false later more = more later
+
+abbrev TablesUp : HeldDb → Type 0
+TablesUp held = Rises held.tables
+
+abbrev PartsUp : HeldTable → Type 0
+PartsUp held = ValuesRise held.parts
+
+abbrev AllPartsUp : HeldDb → Type 0
+AllPartsUp held = AllByRecursion (λ (t : Name × HeldTable). PartsUp t.1) held.tables
+
+tables_up : (o : Option HeldDb) → ((held : HeldDb) → o ≡ Some held → TablesUp held) → Rises (tables_of o)
+tables_up None all = none_rise (slice_cmp nat_cmp)
+tables_up (Some held) all = all held refl
+
+parts_up : (o : Option HeldTable) → ((held : HeldTable) → o ≡ Some held → PartsUp held) → ValuesRise (parts_of o)
+parts_up None all = none_rise (slice_cmp (slice_cmp nat_cmp))
+parts_up (Some held) all = all held refl
+
+under_up : (o : Option HeldDb) → ((held : HeldDb) → o ≡ Some held → AllPartsUp held) → (n : Name) → ValuesRise (parts_of (at_name n (tables_of o)))
+under_up None all n = none_rise (slice_cmp (slice_cmp nat_cmp))
+under_up (Some held) all n = parts_up (at_name n held.tables) (λ t is. found_all PartsUp (is_name n) held.tables (all held refl) t is)
+
+pub rising_is_in_order : RisingIsInOrder
+rising_is_in_order cat names tables parts = record {
+  names = names;
+  tables = λ w. tables_up (database cat w) (λ held is. found_all TablesUp (is_name w) cat.databases tables held is);
+  parts = λ w n. under_up (database cat w) (λ held is. found_all AllPartsUp (is_name w) cat.databases parts held is) n;
 }

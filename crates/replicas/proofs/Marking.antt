@@ -1,9 +1,9 @@
 -- What an event changed has its mark.
-use Rattle.std.proofs.Common.{◌≡◌, ◌⊎◌, inl, inr, ℕ, List, [], ◌∷◌, Some, None, refl, sym, ◌∙◌, ap, subst}
+use Rattle.std.proofs.Common.{◌≡◌, ◌⊎◌, inl, inr, ℕ, List, [], ◌∷◌, Some, None, sym, ◌∙◌, ap, subst}
 use Rattle.cat_types.specs.declared.changes.Op.{Op}
 use Rattle.cat_types.specs.declared.changes.Op.TheVariants.{DropDb, DropPart, DropTable, MovePart, MoveTable, PutDb, PutPart, PutTable}
 use Rattle.cat_values.specs.declared.records.PartRec.{PartRec}
-use Rattle.replicas.specs.Keeping.{IsOld, MarksTell, SameDb, SameTable}
+use Rattle.replicas.specs.Keeping.{IsOld, MarksTell}
 use Rattle.replicas.specs.Laws.{MarksTellChanges, Passes}
 use Rattle.replicas.specs.Objects.{Name, Values, Table, Replica}
 use Rattle.replicas.specs.Operations.{touches_db, touches_tab, touches_par}

@@ -14,7 +14,7 @@ use Rattle.replicas.specs.Operations.{Done}
 use Rattle.replicas.specs.Replay.{Acts, Replays}
 use Rattle.replicas.specs.Source.{Source}
 use Rattle.replicas.specs.Stands.{ReplaysAll, ReplaysEvents}
-use Rattle.replicas.specs.StoreLaws.{StoreEventKeeps, StoreEventsThenLive, StoreLiveEventKeeps, StoresGoLive, StoresStayLive}
+use Rattle.replicas.specs.StoreLaws.{StoreEventKeeps, StoreEventsThenLive, StoreLiveEventKeeps, StoresGoLive, StoresReplay, StoresStayLive}
 use Rattle.replicas.specs.Stores.{Redoes, RedoesAll, RedoesEvents, Store, replica_of}
 use Rattle.replicas.specs.Tests.{acts}
 use Rattle.replicas.proofs.CatalogueDone.{done_by_catalogue, order_stays, same_in}
@@ -78,6 +78,11 @@ events_replay w born (event ∷ events) s t ready redoes =
     let one = ops_replay w born event.id event.change.ops s redoes.0 ready redoes.1 in
     let more = events_replay w born events redoes.0 t one.ready redoes.2 in
     record { replays = (replica_of w redoes.0, one.replays, more.replays); ready = more.ready }
+
+pub stores_replay : StoresReplay
+stores_replay w born events s t order there redoes =
+    let done = events_replay w born events s t (record { order = order; there = there }) redoes in
+    (done.replays, done.ready.order)
 
 -- ---- loads
 

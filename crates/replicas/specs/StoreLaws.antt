@@ -1,7 +1,14 @@
 -- The laws over the catalogues of a source and of a replica's store.
 use Rattle.std.specs.Prelude.{◌≡◌, ◌||◌, ℕ, ◌<◌, ◌≤◌, true, List, [], Some, filter}
+use Rattle.std.specs.Cmp.Lexicographic.{slice_cmp}
+use Rattle.std.specs.List.{AllByRecursion}
+use Rattle.std.specs.List.Sorted.{IsStrictlySortedBy}
+use Rattle.std.specs.Map.{keys_of}
+use Rattle.std.specs.Ordering.{nat_cmp}
 use Rattle.cat_objects.specs.Catalogue.{Catalogue, database, new_catalogue}
 use Rattle.cat_objects.specs.Changes.{are_puts, done_op, fits_op, is_any, is_one}
+use Rattle.cat_objects.specs.declared.held.HeldDb.{HeldDb}
+use Rattle.cat_objects.specs.declared.held.HeldTable.{HeldTable}
 use Rattle.cat_types.specs.declared.changes.Change.{Change}
 use Rattle.cat_types.specs.declared.changes.Event.{Event}
 use Rattle.cat_types.specs.declared.changes.Op.{Op}
@@ -15,7 +22,7 @@ use Rattle.replicas.specs.Objects.{Name, Has, Table}
 use Rattle.replicas.specs.Operations.{Done, Fits}
 use Rattle.replicas.specs.Replay.{Acts}
 use Rattle.replicas.specs.Source.{AllApart, NoMoves}
-use Rattle.replicas.specs.Stands.{Quiet, StandsEvents, StandsLive}
+use Rattle.replicas.specs.Stands.{Quiet, ReplaysEvents, StandsEvents, StandsLive}
 use Rattle.replicas.specs.Stores.{Redoes, RedoesAll, RedoesEvents, Store, TakesEffect, replayed, replica_of}
 
 -- ---- one operation
@@ -58,7 +65,17 @@ NewStoresAreNew = IsNew 0 new_catalogue
 abbrev pub CallsAreApart : Type 0
 CallsAreApart = (ops : List Op) → (is_one is_any ops || are_puts ops) ≡ true → ValuesDiffer ops → AllApart ops
 
+-- databases, the tables of each and the partitions of each of these that rise entry by entry are in order
+abbrev pub RisingIsInOrder : Type 0
+RisingIsInOrder = (cat : Catalogue) → IsStrictlySortedBy (slice_cmp nat_cmp) (keys_of cat.databases)
+    → AllByRecursion (λ (d : List ℕ × HeldDb). IsStrictlySortedBy (slice_cmp nat_cmp) (keys_of d.1.tables)) cat.databases
+    → AllByRecursion (λ (d : List ℕ × HeldDb). AllByRecursion (λ (t : List ℕ × HeldTable). IsStrictlySortedBy (slice_cmp (slice_cmp nat_cmp)) (keys_of t.1.parts)) d.1.tables) cat.databases → IsInOrder cat
+
 -- ---- loads
+
+-- what is replayed in a store is replayed on its replica, and names still rise
+abbrev pub StoresReplay : Type 0
+StoresReplay = (w : Name) (born : ℕ) (events : List Event) (s t : Store) → IsInOrder s.catalogue → Has (objects_of w s.catalogue).db → RedoesEvents w born events s t → ReplaysEvents (Passes is_sound) events (replica_of w s) (replica_of w t) × IsInOrder t.catalogue
 
 -- the next event of the database keeps what a half-loaded replica stands for
 abbrev pub StoreEventKeeps : Type 0

@@ -12,6 +12,8 @@ ghost use Rattle.replicas.specs.Laws.{
   LiveFolderMayStop,
   LivesAreSources,
   MarksNeverFall,
+  MarksTellChanges,
+  NewerPartsStay,
   RepeatedReplaysDoNothing,
   ReplayNeverGoesBack,
 };
@@ -80,4 +82,15 @@ pub fn repeated_replays_do_nothing()
 /// No object that is there before and behind an event has a lower mark behind it.
 pub fn marks_never_fall()
     ensures { MarksNeverFall }
+{}
+
+/// Behind event e, what isn't as it was has the mark e, but for partitions that moved along with their
+/// table.
+pub fn marks_tell_changes()
+    ensures { MarksTellChanges }
+{}
+
+/// An event leaves each partition of a half-loaded replica that has its mark or a greater one.
+pub fn newer_parts_stay()
+    ensures { NewerPartsStay }
 {}

@@ -12,10 +12,12 @@ ghost use Rattle.replicas.specs.StoreLaws.{
   LiveReplicasAreEqual,
   NewStoresAreNew,
   ReplaysAreDone,
+  RisingIsInOrder,
   StoreEventKeeps,
   StoreEventsThenLive,
   StoreLiveEventKeeps,
   StoresGoLive,
+  StoresReplay,
   StoresStayLive,
 };
 
@@ -35,12 +37,18 @@ pub fn operations_are_done_on_catalogues()
 {}
 
 /// The changes of a history are a life of each database, and keep names in order; a new store begins one,
-/// and what a call changes is apart.
+/// what a call changes is apart, and entries that rise are in order.
 pub fn histories_are_lives()
     ensures lives { ChangesAreLives }
     ensures order { HistoriesStayInOrder }
     ensures new_stores { NewStoresAreNew }
     ensures calls { CallsAreApart }
+    ensures rising { RisingIsInOrder }
+{}
+
+/// What is replayed in a store is replayed on its replica: so the laws of marks hold of stores too.
+pub fn stores_replay()
+    ensures { StoresReplay }
 {}
 
 /// The next event of the database, replayed in a store, keeps what a half-loaded replica stands for, and
