@@ -152,44 +152,6 @@ put_there cat db name born rec there = alike cat db (with_old_table name born re
 pub put_missing : (cat : Catalogue) (db name : List ℕ) (born : ℕ) (rec : TableRec) → has_table cat db name ≡ false → changed_tables db (inserted name born rec) cat ≡ changed_tables db (put_table name born rec) cat
 put_missing cat db name born rec free = alike cat db (inserted name born rec) (put_table name born rec) (put_absent name born rec (tables_of (database cat db)) (none_there (table cat db name) free))
 
--- ---- a table taken out of its place and put back
-
--- a change of a table that isn't there
-pub absent_unchanged : (cat : Catalogue) (db name : List ℕ) (change : HeldTable → HeldTable) → table cat db name ≡ None → changed_tables db (changed_value (is_name name) change) cat ≡ cat
-absent_unchanged cat db name change none = unchanged cat db (changed_value (is_name name) change) (changed_absent (is_name name) change (tables_of (database cat db)) none)
-
--- what was taken out of a table's place: what is there, or one without partitions
-abbrev pub WasTaken : Catalogue → List ℕ → List ℕ → HeldTable → Type 0
-WasTaken cat db name held = MatchOption (table cat db name) (held.parts ≡ []) (λ there. held ≡ there)
-
-set_by : (tables : Tables) (name : List ℕ) (left held : HeldTable) (change : HeldTable → HeldTable) (o : Option HeldTable) → at_name name tables ≡ o → MatchOption o (held.parts ≡ []) (λ there. held ≡ there)
-    → replaced name (change held) (replaced name left tables) ≡ changed_value (is_name name) change tables
-set_by tables name left held change None is was =
-    set_twice (is_name name) tables left (change held)
-    ∙ set_absent (is_name name) tables (change held) is
-    ∙ sym (changed_absent (is_name name) change tables is)
-set_by tables name left held change (Some there) is was =
-    set_twice (is_name name) tables left (change held)
-    ∙ set_changed (is_name name) change tables held (is ∙ ap (λ (h : HeldTable). Some h) (sym was))
-
--- changed
-pub held_put : (cat taken put : Catalogue) (db name : List ℕ) (left held new : HeldTable) (change : HeldTable → HeldTable) → WasTaken cat db name held → taken ≡ changed_tables db (replaced name left) cat → new ≡ change held
-    → put ≡ changed_tables db (replaced name new) taken → put ≡ changed_tables db (changed_value (is_name name) change) cat
-held_put cat taken put db name left held new change was out changed back =
-    back
-    ∙ ap (changed_tables db (replaced name new)) out
-    ∙ composed cat db (replaced name new) (replaced name left)
-    ∙ alike cat db (λ (tables : Tables). replaced name new (replaced name left tables)) (changed_value (is_name name) change)
-    (ap (λ (h : HeldTable). replaced name h (replaced name left (tables_of (database cat db)))) changed
-    ∙ set_by (tables_of (database cat db)) name left held change (table cat db name) refl was)
-
--- as it was
-pub held_same : (cat taken put : Catalogue) (db name : List ℕ) (left held new : HeldTable) → WasTaken cat db name held → taken ≡ changed_tables db (replaced name left) cat → new ≡ held
-    → put ≡ changed_tables db (replaced name new) taken → put ≡ cat
-held_same cat taken put db name left held new was out same back =
-    held_put cat taken put db name left held new (λ (h : HeldTable). h) was out same back
-    ∙ unchanged cat db (changed_value (is_name name) (λ (h : HeldTable). h)) (changed_not (is_name name) (λ (h : HeldTable). h) (tables_of (database cat db)) (λ h found. refl))
-
 -- ---- the partitions of a table
 
 abbrev on_parts : (PartList → PartList) → HeldTable → HeldTable
@@ -214,13 +176,21 @@ parts_unchanged cat db name f same =
     (changed_not (is_name name) (on_parts f) (tables_of (database cat db))
     (λ held found. ap (λ (parts : PartList). with_parts parts held) (subst (λ (o : Option HeldTable). f (parts_of o) ≡ parts_of o) found same)))
 
-parts_by : (o : Option HeldTable) (held : HeldTable) → MatchOption o (held.parts ≡ []) (λ there. held ≡ there) → held.parts ≡ parts_of o
-parts_by None held was = was
-parts_by (Some there) held was = ap (λ (h : HeldTable). h.parts) was
+-- partitions that were taken out of a table and given back, changed
+pub parts_put : (cat taken put : Catalogue) (db name : List ℕ) (parts new : PartList) (change : PartList → PartList) → parts ≡ parts_of (table cat db name) → taken ≡ changed_tables db (changed_parts name (λ old. [])) cat → new ≡ change parts
+    → put ≡ changed_tables db (changed_parts name (λ old. new)) taken → put ≡ changed_tables db (changed_parts name change) cat
+parts_put cat taken put db name parts new change were out changed back =
+    back
+    ∙ ap (changed_tables db (changed_parts name (λ old. new))) out
+    ∙ parts_composed cat db name (λ old. new) (λ old. [])
+    ∙ parts_alike cat db name (λ old. new) change (changed ∙ ap change were)
 
--- the partitions of what was taken out
-pub taken_parts : (cat : Catalogue) (db name : List ℕ) (held : HeldTable) → WasTaken cat db name held → held.parts ≡ parts_of (table cat db name)
-taken_parts cat db name held was = parts_by (table cat db name) held was
+-- given back as they were
+pub parts_same : (cat taken put : Catalogue) (db name : List ℕ) (parts new : PartList) → parts ≡ parts_of (table cat db name) → taken ≡ changed_tables db (changed_parts name (λ old. [])) cat → new ≡ parts
+    → put ≡ changed_tables db (changed_parts name (λ old. new)) taken → put ≡ cat
+parts_same cat taken put db name parts new were out same back =
+    parts_put cat taken put db name parts new (λ (p : PartList). p) were out same back
+    ∙ parts_unchanged cat db name (λ (p : PartList). p) refl
 
 -- partitions that were taken out of a table that is dropped, and given to another
 pub parts_moved : (cat emptied given dropped : Catalogue) (db name to : List ℕ) (parts : PartList) → parts ≡ parts_of (table cat db name) → emptied ≡ changed_tables db (changed_parts name (λ old. [])) cat → given ≡ changed_tables db (changed_parts to (λ old. parts)) emptied

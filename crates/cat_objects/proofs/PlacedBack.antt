@@ -1,9 +1,9 @@
 -- What was placed, settled or taken back.
-use Rattle.std.proofs.Common.{◌≡◌, ℕ, true, false, List, [], Option, Some, None, IfSome, is_some, if◌then◌else◌, refl, sym, ap, subst, ◌∙◌}
+use Rattle.std.proofs.Common.{◌≡◌, ℕ, true, false, List, [], Option, Some, None, is_some, if◌then◌else◌, refl, sym, ap, subst, ◌∙◌}
 use Rattle.std.specs.BTreeMap.{insert_entry}
 use Rattle.std.specs.Cmp.Lexicographic.{nat_list_cmp_total, slice_cmp}
 use Rattle.std.specs.Map.{remove_entry}
-use Rattle.std.specs.Option.{unwrap_or}
+use Rattle.std.specs.Option.{option_map, unwrap_or}
 use Rattle.std.specs.Ordering.{nat_cmp}
 use Rattle.cat_values.specs.declared.records.DbRec.{DbRec}
 use Rattle.cat_values.specs.declared.records.TableRec.{TableRec}
@@ -124,6 +124,10 @@ moved_copies cat after db name to born rec copies free are is =
 some_injective : {X : Type 0} (x y : X) → Some x ≡ Some y → x ≡ y
 some_injective {X = X} x y same = ap (λ (o : Option X). unwrap_or o x) same
 
+-- what is told of a table whose record is changed: the born and the record that it had
+abbrev told : HeldTable → ℕ × TableRec
+told held = (held.born, held.rec)
+
 abbrev OtherTable : Catalogue → Catalogue → List ℕ → List ℕ → List ℕ → List ℕ → ℕ → TableRec → ℕ → TableRec → Type 0
 OtherTable cat after placed altered db name born rec old before = (after ≡ changed_tables db (put_table name born rec) cat) × (changed_tables placed (with_old_table altered old before) after ≡ cat)
 
@@ -142,17 +146,18 @@ other_by cat after db name born rec old before held there same_born same_rec is 
       ∙ ap (λ (b : ℕ). with_table_record b h.rec h) (sym same_born ∙ ap (λ (k : HeldTable). k.born) same))),
 )
 
-other_table : (cat after : Catalogue) (db name : List ℕ) (born : ℕ) (rec : TableRec) (old : ℕ) (before : TableRec) (o : Option HeldTable) → table cat db name ≡ o → is_some o ≡ true → IfSome o (λ held. ◌≡◌ {A = ℕ × TableRec} (old, before) (held.born, held.rec))
+other_table : (cat after : Catalogue) (db name : List ℕ) (born : ℕ) (rec : TableRec) (old : ℕ) (before : TableRec) (o : Option HeldTable) → table cat db name ≡ o → is_some o ≡ true → ◌≡◌ {A = Option (ℕ × TableRec)} (Some (old, before)) (option_map told o)
     → after ≡ changed_tables db (with_old_table name born rec) cat → OtherTable cat after db name db name born rec old before
 other_table cat after db name born rec old before None is there was done = absurd cc
 other_table cat after db name born rec old before (Some held) is there was done =
-    other_by cat after db name born rec old before held is (sym (ap (λ (p : ℕ × TableRec). p.0) was)) (sym (ap (λ (p : ℕ × TableRec). p.1) was)) done
+    let same : ◌≡◌ {A = ℕ × TableRec} (old, before) (held.born, held.rec) = some_injective (old, before) (held.born, held.rec) was in
+    other_by cat after db name born rec old before held is (sym (ap (λ (p : ℕ × TableRec). p.0) same)) (sym (ap (λ (p : ℕ × TableRec). p.1) same)) done
 
 -- with what was copied for it
 pub altered_table : (cat after : Catalogue) (db name : List ℕ) (born : ℕ) (rec : TableRec) (old : ℕ × TableRec) (copies : List ℕ × List ℕ × TableRec) → has_table cat db name ≡ true → copies ≡ (db, name, rec)
-    → IfSome (table cat copies.0 copies.1) (λ held. old ≡ (held.born, held.rec))
+    → Some old ≡ option_map told (table cat copies.0 copies.1)
     → after ≡ changed_tables copies.0 (with_old_table copies.1 born copies.2) cat → (after ≡ changed_tables db (put_table name born rec) cat) × (changed_tables copies.0 (with_old_table copies.1 old.0 old.1) after ≡ cat)
 altered_table cat after db name born rec old copies there are was is =
     subst
-    (λ (p : List ℕ × List ℕ × TableRec). IfSome (table cat p.0 p.1) (λ held. old ≡ (held.born, held.rec)) → after ≡ changed_tables p.0 (with_old_table p.1 born p.2) cat → OtherTable cat after p.0 p.1 db name born rec old.0 old.1)
+    (λ (p : List ℕ × List ℕ × TableRec). Some old ≡ option_map told (table cat p.0 p.1) → after ≡ changed_tables p.0 (with_old_table p.1 born p.2) cat → OtherTable cat after p.0 p.1 db name born rec old.0 old.1)
     (sym are) (other_table cat after db name born rec old.0 old.1 (table cat db name) refl there) was is

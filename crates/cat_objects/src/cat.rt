@@ -10,7 +10,7 @@ ghost use Rattle.cat_objects.specs.Parts as parts;
 ghost use Rattle.cat_values.specs.Maps.{first_after};
 
 use crate::{HeldDb, HeldTable};
-use cat_types::{DbRec, ListOf, MapOf, NoMemory, PartRec, TableRec, Text, Texts};
+use cat_types::{DbRec, ListOf, MapOf, NoMemory, PartRec, Shared, TableRec, Text, Texts};
 use std::alloc::Global;
 use std::marker::Model;
 
@@ -119,7 +119,7 @@ impl Cat {
 
     /// The born and the record of the table with this name in the database with that one; both are in
     /// lower case. It takes no memory.
-    pub fn table(&self, db: &Text, name: &Text) -> Option<(u64, &TableRec)>
+    pub fn table(&self, db: &Text, name: &Text) -> Option<(u64, &Shared<TableRec>)>
         ensures born { option_map (λ found. found.0) result ≡ option_map (λ held. held.born) (table self.now db.now name.now) }
         ensures rec { option_map (λ found. found.1.now) result ≡ option_map (λ held. held.rec) (table self.now db.now name.now) }
     {
@@ -139,7 +139,7 @@ impl Cat {
     /// The first table of a database whose name is above this one, or the first of all, with its born
     /// and its record; none where the database isn't there. Its name is in lower case. It takes no
     /// memory.
-    pub fn table_after(&self, db: &Text, after: Option<&Text>) -> Option<(&Text, u64, &TableRec)>
+    pub fn table_after(&self, db: &Text, after: Option<&Text>) -> Option<(&Text, u64, &Shared<TableRec>)>
         ensures { option_map (λ found. (found.0.now, found.1, found.2.now)) result ≡ option_map shown_table (first_after (slice_cmp nat_cmp) (option_copied after.entry) (tables_of (database self.now db.now))) }
     {
         let (name, held) = self.held_database(db)?.tables.after(after)?;
@@ -148,7 +148,7 @@ impl Cat {
 
     /// The record of the partition with these values of the table with this name in the database with
     /// that one; both are in lower case. It takes no memory.
-    pub fn part(&self, db: &Text, name: &Text, values: &Texts) -> Option<&PartRec>
+    pub fn part(&self, db: &Text, name: &Text, values: &Texts) -> Option<&Shared<PartRec>>
         ensures { option_copied result ≡ part self.now db.now name.now values.now }
     {
         self.held_table(db, name)?.parts.get(values)
@@ -168,7 +168,7 @@ impl Cat {
         db: &Text,
         name: &Text,
         after: Option<&Texts>,
-    ) -> Option<(&Texts, &PartRec)>
+    ) -> Option<(&Texts, &Shared<PartRec>)>
         ensures { option_map (λ found. (found.0.now, found.1.now)) result ≡ parts.first_after (option_copied after.entry) (parts_of (table self.now db.now name.now)) }
     {
         match self.held_table(db, name) {

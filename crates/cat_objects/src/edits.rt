@@ -1,17 +1,17 @@
 //! How the databases and tables of a catalogue are changed in place.
 
-ghost use Rattle.std.specs.Prelude.{◌≡◌, [], IfSome, MatchOption, OnErr, OnOk};
+ghost use Rattle.std.specs.Prelude.{◌≡◌, [], OnErr, OnOk};
 ghost use Rattle.std.specs.BTreeMap.{insert_entry};
 ghost use Rattle.std.specs.Cmp.Lexicographic.{slice_cmp};
 ghost use Rattle.std.specs.Map.{remove_entry, set_value};
-ghost use Rattle.std.specs.Option.{unwrap_or};
+ghost use Rattle.std.specs.Option.{option_map, unwrap_or};
 ghost use Rattle.std.specs.Ordering.{nat_cmp};
-ghost use Rattle.cat_objects.specs.Catalogue.{database, empty_database, is_name, table};
-ghost use Rattle.cat_objects.specs.Changes.{changed_tables, with_old_record, with_old_table, without_table};
+ghost use Rattle.cat_objects.specs.Catalogue.{database, empty_database, is_name, parts_of, table};
+ghost use Rattle.cat_objects.specs.Changes.{changed_parts, changed_tables, with_old_record, with_old_table, without_table};
 ghost use Rattle.cat_objects.specs.Placing.{with_new};
 
-use crate::{Cat, HeldDb, HeldParts, HeldTable};
-use cat_types::{DbRec, MapOf, NoMemory, TableRec, Text};
+use crate::{Cat, HeldDb, HeldParts, HeldTable, HeldTables};
+use cat_types::{DbRec, NoMemory, Shared, TableRec, Text};
 use std::mem;
 
 impl Cat {
@@ -47,7 +47,7 @@ impl Cat {
         let held = HeldDb {
             born,
             rec,
-            tables: MapOf::new(self.alloc),
+            tables: HeldTables::new(self.alloc),
         };
         self.databases.put(name, held)
     }
@@ -70,47 +70,11 @@ impl Cat {
         before
     }
 
-    // Puts what is held of a table in the place of what was, and gives that. Where the table isn't
-    // there, nothing changes. It takes no memory.
-    pub(crate) fn swap_table(
-        &mut self,
-        db: &Text,
-        name: &Text,
-        made: HeldTable,
-    ) -> Option<HeldTable>
-        ensures value { result ≡ table self.old db.now name.now }
-        ensures after { self.new ≡ changed_tables db.now (λ tables. set_value (is_name name.now) tables made) self.old }
-    {
-        let mut held = self.take_database(db);
-        let before = held.tables.swap(name, made);
-        self.put_back(db, held);
-        before
-    }
-
     // Gives a database an older record, where it is there. It takes no memory.
     pub(crate) fn restore_record(&mut self, db: &Text, before: DbRec)
         ensures { self.new ≡ with_old_record (database self.old db.now) db.now before self.old }
     {
         let _ = self.swap_record(db, before);
-    }
-
-    // Takes a table out of its place, in which another one stays; one without partitions where it isn't
-    // there. It takes no memory.
-    pub(crate) fn take_table(&mut self, db: &Text, name: &Text) -> HeldTable
-        ensures value { MatchOption (table self.old db.now name.now) (result.parts ≡ []) (λ held. result ≡ held) }
-        ensures left { (left : HeldTable) × (self.new ≡ changed_tables db.now (λ tables. set_value (is_name name.now) tables left) self.old) }
-    {
-        match self.swap_table(db, name, HeldTable::empty(self.alloc)) {
-            Some(held) => held,
-            None => HeldTable::empty(self.alloc),
-        }
-    }
-
-    // Puts a table in the place of what is there at its name. It takes no memory.
-    pub(crate) fn restore_table(&mut self, db: &Text, name: &Text, held: HeldTable)
-        ensures { self.new ≡ changed_tables db.now (λ tables. set_value (is_name name.now) tables held) self.old }
-    {
-        let _ = self.swap_table(db, name, held);
     }
 
     // Gives a table a born and a record, where it is there, and tells those that it had. Its partitions
@@ -120,19 +84,38 @@ impl Cat {
         db: &Text,
         name: &Text,
         born: u64,
-        rec: TableRec,
-    ) -> (u64, TableRec)
-        ensures value { IfSome (table self.old db.now name.now) (λ held. result ≡ (held.born, held.rec)) }
+        rec: Shared<TableRec>,
+    ) -> Option<(u64, Shared<TableRec>)>
+        ensures value { result ≡ option_map (λ held. (held.born, held.rec)) (table self.old db.now name.now) }
         ensures after { self.new ≡ changed_tables db.now (with_old_table name.now born rec) self.old }
     {
-        let held = self.take_table(db, name);
-        let HeldTable {
-            born: old_born,
-            rec: before,
-            parts,
-        } = held;
-        self.restore_table(db, name, HeldTable { born, rec, parts });
-        (old_born, before)
+        let mut held = self.take_database(db);
+        let before = held.tables.swap_record(name, born, rec);
+        self.put_back(db, held);
+        before
+    }
+
+    // Takes all partitions out of a table; there are none where it isn't there. It takes no memory.
+    pub(crate) fn take_parts(&mut self, db: &Text, name: &Text) -> HeldParts
+        ensures value { result ≡ parts_of (table self.old db.now name.now) }
+        ensures left { self.new ≡ changed_tables db.now (changed_parts name.now (λ parts. [])) self.old }
+    {
+        let mut held = self.take_database(db);
+        let taken = held.tables.swap_parts(name, HeldParts::new(self.alloc));
+        self.put_back(db, held);
+        match taken {
+            Some(parts) => parts,
+            None => HeldParts::new(self.alloc),
+        }
+    }
+
+    // Gives a table these partitions in place of its own, where it is there. It takes no memory.
+    pub(crate) fn give_parts(&mut self, db: &Text, name: &Text, given: HeldParts)
+        ensures { self.new ≡ changed_tables db.now (changed_parts name.now (λ parts. given)) self.old }
+    {
+        let mut held = self.take_database(db);
+        give_parts(&mut held.tables, name, given);
+        self.put_back(db, held);
     }
 
     // Gives a table an older born and record, where it is there. It takes no memory.
@@ -141,7 +124,7 @@ impl Cat {
         db: &Text,
         name: &Text,
         born: u64,
-        before: TableRec,
+        before: Shared<TableRec>,
     )
         ensures { self.new ≡ changed_tables db.now (with_old_table name.now born before) self.old }
     {
@@ -155,27 +138,20 @@ impl Cat {
         db: &Text,
         name: Text,
         born: u64,
-        rec: TableRec,
+        rec: Shared<TableRec>,
     ) -> Result<(), NoMemory>
         ensures ok { OnOk result (self.new ≡ changed_tables db.now (λ tables. insert_entry (slice_cmp nat_cmp) tables name (record { born = born; rec = rec; parts = [] })) self.old) }
         ensures err { OnErr result (self.new ≡ self.old) }
     {
-        let made = self.new_table(born, rec);
+        let made = HeldTable {
+            born,
+            rec,
+            parts: HeldParts::new(self.alloc),
+        };
         let mut held = self.take_database(db);
         let put = held.tables.put(name, made);
         self.put_back(db, held);
         put
-    }
-
-    // A table without partitions. It takes no memory.
-    pub(crate) fn new_table(&self, born: u64, rec: TableRec) -> HeldTable
-        ensures { result ≡ record { born = born; rec = rec; parts = [] } }
-    {
-        HeldTable {
-            born,
-            rec,
-            parts: HeldParts::new(self.alloc),
-        }
     }
 
     // Takes a table out of a database, where it is there. It takes no memory.
@@ -189,8 +165,15 @@ impl Cat {
 }
 
 // Takes a table out of a database's tables.
-fn drop_table(tables: &mut MapOf<Text, HeldTable>, name: &Text)
+fn drop_table(tables: &mut HeldTables, name: &Text)
     ensures { tables.new ≡ without_table name.now tables.old }
 {
     let _ = tables.remove(name);
+}
+
+// Gives a table these partitions in place of its own, where it is there.
+fn give_parts(tables: &mut HeldTables, name: &Text, given: HeldParts)
+    ensures { tables.new ≡ changed_parts name.now (λ parts. given) tables.old }
+{
+    let _ = tables.swap_parts(name, given);
 }

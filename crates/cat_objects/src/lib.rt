@@ -12,9 +12,11 @@ mod parts;
 mod placing;
 mod replaying;
 mod seen;
+mod tables;
 
 pub use cat::{Cat, LAST_EVENT};
 pub use held::{HeldDb, HeldTable};
 pub use laws::lawful_and_found_is_fitting;
 pub use parts::{HeldParts, PartPut};
 pub use placing::Placed;
+pub use tables::HeldTables;

@@ -1,17 +1,16 @@
 //! How the partitions of a table are changed in place.
 
-ghost use Rattle.std.specs.Prelude.{◌≡◌, [], false, true, is_some, IfOk, OnErr, OnOk};
+ghost use Rattle.std.specs.Prelude.{◌≡◌, false, true, is_some, IfOk, OnErr, OnOk};
 ghost use Rattle.std.specs.BTreeMap.{insert_entry};
 ghost use Rattle.std.specs.Cmp.Lexicographic.{slice_cmp};
 ghost use Rattle.std.specs.Map.{set_value};
 ghost use Rattle.std.specs.Ordering.{nat_cmp};
-ghost use Rattle.cat_objects.specs.Catalogue.{parts_of, table};
 ghost use Rattle.cat_objects.specs.Changes.{changed_parts, changed_tables, settled_move, unput, unput_by};
 ghost use Rattle.cat_objects.specs.Parts.{are_values, at_values, put_part, without_part};
 ghost use Rattle.cat_objects.specs.Placing.{put_all, put_by};
 
-use crate::{Cat, HeldParts, HeldTable, PartPut};
-use cat_types::{CopyParts, NoMemory, Op, PartRec, Text, Texts};
+use crate::{Cat, HeldParts, PartPut};
+use cat_types::{CopyParts, NoMemory, Op, PartRec, Shared, Text, Texts};
 use std::alloc::Global;
 
 impl Cat {
@@ -22,33 +21,33 @@ impl Cat {
         db: &Text,
         name: &Text,
         values: Texts,
-        rec: PartRec,
+        rec: Shared<PartRec>,
     ) -> Result<(), NoMemory>
         ensures ok { OnOk result (self.new ≡ changed_tables db.now (changed_parts name.now (λ parts. insert_entry (slice_cmp (slice_cmp nat_cmp)) parts values rec)) self.old) }
         ensures err { OnErr result (self.new ≡ self.old) }
     {
-        let mut held = self.take_table(db, name);
-        let put = held.parts.put(values, rec);
-        self.restore_table(db, name, held);
+        let mut parts = self.take_parts(db, name);
+        let put = parts.put(values, rec);
+        self.give_parts(db, name, parts);
         put
     }
 
     // Gives a partition a record, where it is there. It takes no memory.
-    pub(crate) fn swap_part(&mut self, db: &Text, name: &Text, values: &Texts, rec: PartRec)
+    pub(crate) fn swap_part(&mut self, db: &Text, name: &Text, values: &Texts, rec: Shared<PartRec>)
         ensures { self.new ≡ changed_tables db.now (changed_parts name.now (λ parts. set_value (are_values values.now) parts rec)) self.old }
     {
-        let mut held = self.take_table(db, name);
-        replace_in(&mut held.parts, values, rec);
-        self.restore_table(db, name, held);
+        let mut parts = self.take_parts(db, name);
+        replace_in(&mut parts, values, rec);
+        self.give_parts(db, name, parts);
     }
 
     // Takes a partition out of a table, where it is there. It takes no memory.
     pub(crate) fn remove_part(&mut self, db: &Text, name: &Text, values: &Texts)
         ensures { self.new ≡ changed_tables db.now (changed_parts name.now (without_part values.now)) self.old }
     {
-        let mut held = self.take_table(db, name);
-        drop_from(&mut held.parts, values);
-        self.restore_table(db, name, held);
+        let mut parts = self.take_parts(db, name);
+        drop_from(&mut parts, values);
+        self.give_parts(db, name, parts);
     }
 
     // Puts partitions under a table, one after the other, and tells how they are taken back. After
@@ -63,9 +62,9 @@ impl Cat {
         ensures back { IfOk result (λ puts. changed_tables db.now (changed_parts name.now (unput puts.items)) self.new ≡ self.old) }
         ensures err { OnErr result (self.new ≡ self.old) }
     {
-        let mut held = self.take_table(db, name);
-        let puts = put_in(&mut held.parts, ops, self.alloc);
-        self.restore_table(db, name, held);
+        let mut parts = self.take_parts(db, name);
+        let puts = put_in(&mut parts, ops, self.alloc);
+        self.give_parts(db, name, parts);
         puts
     }
 
@@ -73,9 +72,9 @@ impl Cat {
     pub(crate) fn unput_parts(&mut self, db: &Text, name: &Text, puts: Vec<PartPut>)
         ensures { self.new ≡ changed_tables db.now (changed_parts name.now (unput puts.items)) self.old }
     {
-        let mut held = self.take_table(db, name);
-        unput_in(&mut held.parts, puts);
-        self.restore_table(db, name, held);
+        let mut parts = self.take_parts(db, name);
+        unput_in(&mut parts, puts);
+        self.give_parts(db, name, parts);
     }
 
     // Gives the partitions of a table to the one that it moved to, and takes it out. It takes no memory.
@@ -86,38 +85,10 @@ impl Cat {
         self.give_parts(db, to, parts);
         self.remove_table(db, name);
     }
-
-    // Takes all partitions out of a table; it has none where it isn't there. It takes no memory.
-    fn take_parts(&mut self, db: &Text, name: &Text) -> HeldParts
-        ensures value { result ≡ parts_of (table self.old db.now name.now) }
-        ensures left { self.new ≡ changed_tables db.now (changed_parts name.now (λ parts. [])) self.old }
-    {
-        let HeldTable { born, rec, parts } = self.take_table(db, name);
-        let emptied = self.new_table(born, rec);
-        self.restore_table(db, name, emptied);
-        parts
-    }
-
-    // Gives a table these partitions in place of its own, where it is there. It takes no memory.
-    fn give_parts(&mut self, db: &Text, name: &Text, given: HeldParts)
-        ensures { self.new ≡ changed_tables db.now (changed_parts name.now (λ parts. given)) self.old }
-    {
-        let HeldTable {
-            born,
-            rec,
-            parts: _,
-        } = self.take_table(db, name);
-        let held = HeldTable {
-            born,
-            rec,
-            parts: given,
-        };
-        self.restore_table(db, name, held);
-    }
 }
 
 // Gives a partition another record, where it is there.
-fn replace_in(parts: &mut HeldParts, values: &Texts, rec: PartRec)
+fn replace_in(parts: &mut HeldParts, values: &Texts, rec: Shared<PartRec>)
     ensures { parts.new ≡ set_value (are_values values.now) parts.old rec }
 {
     let _ = parts.swap(values, rec);
@@ -194,7 +165,7 @@ fn put_op(
 fn put_over(
     parts: &mut HeldParts,
     values: &Texts,
-    rec: &PartRec,
+    rec: &Shared<PartRec>,
     puts: &mut Vec<PartPut>,
     alloc: Global,
 ) -> Result<(), NoMemory>
@@ -211,7 +182,7 @@ fn put_over(
 fn put_new(
     parts: &mut HeldParts,
     values: &Texts,
-    rec: &PartRec,
+    rec: &Shared<PartRec>,
     puts: &mut Vec<PartPut>,
     alloc: Global,
 ) -> Result<(), NoMemory>

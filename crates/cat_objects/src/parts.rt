@@ -10,7 +10,7 @@ ghost use Rattle.std.specs.Option.{option_copied, option_map};
 ghost use Rattle.std.specs.Ordering.{is_le, is_lt, nat_cmp};
 ghost use Rattle.cat_objects.specs.Parts.{are_values, at_values, first_after, parts_above, parts_from, without_part};
 
-use cat_types::{NoMemory, PartRec, Texts};
+use cat_types::{NoMemory, PartRec, Shared, Texts};
 use std::alloc::Global;
 use std::collections::BTreeMap;
 use std::collections::btree_map::{Iter, Range};
@@ -22,7 +22,7 @@ use std::ops::Bound;
 /// order of their values.
 #[derive(Drop)]
 pub struct HeldParts {
-    inner: BTreeMap<Texts, PartRec>,
+    inner: BTreeMap<Texts, Shared<PartRec>>,
 }
 
 impl Model for HeldParts {
@@ -51,14 +51,14 @@ impl HeldParts {
     }
 
     /// The partition with these values. It takes no memory.
-    pub fn get(&self, values: &Texts) -> Option<&PartRec>
+    pub fn get(&self, values: &Texts) -> Option<&Shared<PartRec>>
         ensures { option_copied result ≡ at_values values.now self.now }
     {
         self.inner.get(values)
     }
 
     /// All partitions, in rising order of their values. It takes no memory.
-    pub fn iter(&self) -> Iter<'_, Texts, PartRec>
+    pub fn iter(&self) -> Iter<'_, Texts, Shared<PartRec>>
         ensures pairs { result ≡ self.now }
         ensures sorted { IsStrictlySortedBy (slice_cmp (slice_cmp nat_cmp)) (keys_of self.now) }
     {
@@ -66,7 +66,7 @@ impl HeldParts {
     }
 
     /// The first partition whose values are above these, or the first of all. It takes no memory.
-    pub fn after(&self, after: Option<&Texts>) -> Option<(&Texts, &PartRec)>
+    pub fn after(&self, after: Option<&Texts>) -> Option<(&Texts, &Shared<PartRec>)>
         ensures { option_map (λ found. (found.0.now, found.1.now)) result ≡ first_after (option_copied after.entry) self.now }
     {
         match after {
@@ -77,7 +77,7 @@ impl HeldParts {
 
     /// The partitions whose values aren't below these, in rising order of their values. It takes no
     /// memory.
-    pub fn starting_at(&self, first: &Texts) -> Range<'_, Texts, PartRec>
+    pub fn starting_at(&self, first: &Texts) -> Range<'_, Texts, Shared<PartRec>>
         ensures pairs { result ≡ parts_from first.now self.now }
         ensures sorted { IsStrictlySortedBy (slice_cmp (slice_cmp nat_cmp)) (keys_of self.now) }
     {
@@ -86,7 +86,7 @@ impl HeldParts {
 
     /// The partitions whose values are above these, or all of them, in rising order of their values. It
     /// takes no memory.
-    pub fn above(&self, after: Option<&Texts>) -> Range<'_, Texts, PartRec>
+    pub fn above(&self, after: Option<&Texts>) -> Range<'_, Texts, Shared<PartRec>>
         ensures pairs { result ≡ parts_above (option_copied after.entry) self.now }
         ensures sorted { IsStrictlySortedBy (slice_cmp (slice_cmp nat_cmp)) (keys_of self.now) }
     {
@@ -98,7 +98,7 @@ impl HeldParts {
 
     /// Puts a partition, over the one with its values where there is one. After `NoMemory` they are
     /// as before.
-    pub fn put(&mut self, values: Texts, rec: PartRec) -> Result<(), NoMemory>
+    pub fn put(&mut self, values: Texts, rec: Shared<PartRec>) -> Result<(), NoMemory>
         ensures ok { OnOk result (self.new ≡ insert_entry (slice_cmp (slice_cmp nat_cmp)) self.old values rec) }
         ensures err { OnErr result (self.new ≡ self.old) }
     {
@@ -107,7 +107,7 @@ impl HeldParts {
     }
 
     /// Takes a partition out, where it is there, and gives its record. It takes no memory.
-    pub fn remove(&mut self, values: &Texts) -> Option<PartRec>
+    pub fn remove(&mut self, values: &Texts) -> Option<Shared<PartRec>>
         ensures value { result ≡ at_values values.now self.old }
         ensures entries { self.new ≡ without_part values.now self.old }
     {
@@ -116,7 +116,7 @@ impl HeldParts {
 
     /// Gives a partition another record, where it is there, and tells the one that it had. It takes no
     /// memory.
-    pub fn swap(&mut self, values: &Texts, rec: PartRec) -> Option<PartRec>
+    pub fn swap(&mut self, values: &Texts, rec: Shared<PartRec>) -> Option<Shared<PartRec>>
         ensures value { result ≡ at_values values.now self.old }
         ensures entries { self.new ≡ set_value (are_values values.now) self.old rec }
     {
@@ -125,7 +125,7 @@ impl HeldParts {
 }
 
 // The first pair whose key is above this one.
-fn first_above<'a, K: Ord, V>(inner: &'a BTreeMap<K, V>, key: &K) -> Option<(&'a K, &'a V)>
+pub(crate) fn first_above<'a, K: Ord, V>(inner: &'a BTreeMap<K, V>, key: &K) -> Option<(&'a K, &'a V)>
     ensures { option_map (λ found. (found.0.now, found.1.now)) result ≡ find (λ entry. is_lt (K.cmp key.now entry.0)) inner.now.entries }
 {
     inner.range((Bound::Excluded(key), Bound::Unbounded)).next()
@@ -171,5 +171,5 @@ fn swap_value<K: Ord, V: Drop>(inner: &mut BTreeMap<K, V>, key: &K, value: V) ->
 #[derive(Drop)]
 pub struct PartPut {
     pub values: Texts,
-    pub before: Option<PartRec>,
+    pub before: Option<Shared<PartRec>>,
 }

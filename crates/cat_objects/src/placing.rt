@@ -11,7 +11,7 @@ ghost use Rattle.cat_objects.specs.Placing.{Places, is_placeable, put_all, table
 
 use crate::{Cat, PartPut};
 use cat_types::{
-    Change, CopyParts, DbRec, NoMemory, Op, Ops, PartRec, TableRec, Text, Texts, TryCopy,
+    Change, CopyParts, DbRec, NoMemory, Op, Ops, PartRec, Shared, TableRec, Text, Texts, TryCopy,
 };
 
 /// A change that was placed and is neither settled nor taken back: what it made, altered or is to
@@ -39,7 +39,7 @@ pub enum Placed {
         db: Text,
         table: Text,
         born: u64,
-        before: TableRec,
+        before: Shared<TableRec>,
     },
     /// It is there until this is settled.
     TableDropped {
@@ -174,7 +174,7 @@ impl Cat {
         db: &Text,
         table: &Text,
         born: u64,
-        rec: &TableRec,
+        rec: &Shared<TableRec>,
     ) -> Result<Placed, NoMemory>
         ensures { Places result self.new (changed_tables db.now (put_table table.now born rec.now) self.old) self.old }
     {
@@ -191,13 +191,15 @@ impl Cat {
         db: &Text,
         table: &Text,
         born: u64,
-        rec: &TableRec,
+        rec: &Shared<TableRec>,
     ) -> Result<Placed, NoMemory>
         requires { has_table self.old db.now table.now ≡ true }
         ensures { Places result self.new (changed_tables db.now (put_table table.now born rec.now) self.old) self.old }
     {
         let (db, table, rec) = (db, table, rec).copy_parts(self.alloc)?;
-        let (old_born, before) = self.swap_table_record(&db, &table, born, rec);
+        let Some((old_born, before)) = self.swap_table_record(&db, &table, born, rec) else {
+            unreachable!()
+        };
         Ok(Placed::TableAltered {
             db,
             table,
@@ -212,7 +214,7 @@ impl Cat {
         db: &Text,
         table: &Text,
         born: u64,
-        rec: &TableRec,
+        rec: &Shared<TableRec>,
     ) -> Result<Placed, NoMemory>
         requires { has_table self.old db.now table.now ≡ false }
         ensures { Places result self.new (changed_tables db.now (put_table table.now born rec.now) self.old) self.old }
@@ -238,7 +240,7 @@ impl Cat {
         table: &Text,
         born: u64,
         to: &Text,
-        rec: &TableRec,
+        rec: &Shared<TableRec>,
     ) -> Result<Placed, NoMemory>
         requires { has_table self.old db.now to.now ≡ false }
         ensures { Places result self.new (changed_tables db.now (moved_table table.now to.now born rec.now) self.old) self.old }
@@ -278,7 +280,7 @@ impl Cat {
         table: &Text,
         values: &Texts,
         to: &Texts,
-        rec: &PartRec,
+        rec: &Shared<PartRec>,
     ) -> Result<Placed, NoMemory>
         requires { has_part self.old db.now table.now to.now ≡ false }
         ensures { Places result self.new (changed_tables db.now (changed_parts table.now (moved_part values.now to.now rec.now)) self.old) self.old }

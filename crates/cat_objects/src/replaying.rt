@@ -10,7 +10,8 @@ ghost use Rattle.cat_objects.specs.Placing.{Redoes};
 use crate::{Cat, LAST_EVENT};
 use cat_rules::{columns_rule, object_name};
 use cat_types::{
-    Change, CopyParts, DbRec, EventKind, NoMemory, Op, Ops, PartRec, TableRec, Text, Texts, TryCopy,
+    Change, CopyParts, DbRec, EventKind, NoMemory, Op, Ops, PartRec, Shared, TableRec, Text, Texts,
+    TryCopy,
 };
 
 impl Cat {
@@ -148,7 +149,7 @@ impl Cat {
         db: &Text,
         name: &Text,
         born: u64,
-        rec: &TableRec,
+        rec: &Shared<TableRec>,
     ) -> Result<bool, NoMemory>
         ensures { IfOk result (λ taken. Redoes taken self.new (fits_op self.old db.now (Op.PutTable name.now born rec.now)) (changed_tables db.now (put_table name.now born rec.now) self.old)) }
     {
@@ -177,7 +178,7 @@ impl Cat {
         name: &Text,
         born: u64,
         to: &Text,
-        rec: &TableRec,
+        rec: &Shared<TableRec>,
     ) -> Result<bool, NoMemory>
         ensures { IfOk result (λ taken. Redoes taken self.new (fits_op self.old db.now (Op.MoveTable name.now born to.now rec.now)) (done_op db.now born self.old (Op.MoveTable name.now born to.now rec.now))) }
     {
@@ -197,7 +198,7 @@ impl Cat {
         name: &Text,
         born: u64,
         to: &Text,
-        rec: &TableRec,
+        rec: &Shared<TableRec>,
     ) -> Result<bool, NoMemory>
         ensures { IfOk result (λ may. may ≡ fits_op self.now db.now (Op.MoveTable name.now born to.now rec.now)) }
     {
@@ -217,7 +218,7 @@ impl Cat {
         name: &Text,
         born: u64,
         values: &Texts,
-        rec: &PartRec,
+        rec: &Shared<PartRec>,
     ) -> Result<bool, NoMemory>
         ensures { IfOk result (λ taken. Redoes taken self.new (can_hold born values.now (table self.old db.now name.now)) (changed_tables db.now (changed_parts name.now (put_part values.now rec.now)) self.old)) }
     {
@@ -247,7 +248,7 @@ impl Cat {
         born: u64,
         values: &Texts,
         to: &Texts,
-        rec: &PartRec,
+        rec: &Shared<PartRec>,
     ) -> Result<bool, NoMemory>
         ensures { IfOk result (λ taken. Redoes taken self.new (fits_op self.old db.now (Op.MovePart name.now born values.now to.now rec.now)) (changed_tables db.now (changed_parts name.now (moved_part values.now to.now rec.now)) self.old)) }
     {
@@ -268,7 +269,7 @@ impl Cat {
         db: &Text,
         name: &Text,
         values: &Texts,
-        rec: &PartRec,
+        rec: &Shared<PartRec>,
     ) -> Result<(), NoMemory>
         ensures { OnOk result (self.new ≡ changed_tables db.now (changed_parts name.now (put_part values.now rec.now)) self.old) }
     {
@@ -298,7 +299,7 @@ impl Cat {
         db: &Text,
         name: &Text,
         born: u64,
-        rec: &TableRec,
+        rec: &Shared<TableRec>,
     ) -> Result<(), NoMemory>
         ensures { OnOk result (self.new ≡ changed_tables db.now (put_table name.now born rec.now) self.old) }
     {
@@ -332,7 +333,7 @@ impl Cat {
     }
 
     // Whether a record may be put over a table.
-    fn fits_over(&self, db: &Text, name: &Text, born: u64, rec: &TableRec) -> bool
+    fn fits_over(&self, db: &Text, name: &Text, born: u64, rec: &Shared<TableRec>) -> bool
         ensures { result ≡ fits_over born rec.now (table self.now db.now name.now) }
     {
         match self.held_table(db, name) {

@@ -3,6 +3,7 @@
 ghost use Rattle.std.specs.Prelude.{◌≡◌, IfOk};
 
 use cat_values::{CopyParts, DbRec, ListOf, NoMemory, PartRec, TableRec, Text, Texts, TryCopy};
+use shared_values::Shared;
 use std::alloc::Global;
 
 /// What kind of change an event keeps.
@@ -33,7 +34,7 @@ pub enum Op {
     PutTable {
         table: Text,
         born: u64,
-        rec: TableRec,
+        rec: Shared<TableRec>,
     },
     /// Drops a table with its partitions.
     DropTable {
@@ -45,14 +46,14 @@ pub enum Op {
         table: Text,
         born: u64,
         to: Text,
-        rec: TableRec,
+        rec: Shared<TableRec>,
     },
     /// Makes a partition, or gives it this record.
     PutPart {
         table: Text,
         born: u64,
         values: Texts,
-        rec: PartRec,
+        rec: Shared<PartRec>,
     },
     /// Drops a partition.
     DropPart {
@@ -66,7 +67,7 @@ pub enum Op {
         born: u64,
         values: Texts,
         to: Texts,
-        rec: PartRec,
+        rec: Shared<PartRec>,
     },
 }
 
@@ -138,7 +139,7 @@ fn copy_put_db(rec: &DbRec, alloc: Global) -> Result<Op, NoMemory>
     }
 }
 
-fn copy_put_table(table: &Text, born: u64, rec: &TableRec, alloc: Global) -> Result<Op, NoMemory>
+fn copy_put_table(table: &Text, born: u64, rec: &Shared<TableRec>, alloc: Global) -> Result<Op, NoMemory>
     ensures { IfOk result (λ made. made ≡ Op.PutTable table.now born rec.now) }
 {
     match (table, rec).copy_parts(alloc) {
@@ -160,7 +161,7 @@ fn copy_move_table(
     table: &Text,
     born: u64,
     to: &Text,
-    rec: &TableRec,
+    rec: &Shared<TableRec>,
     alloc: Global,
 ) -> Result<Op, NoMemory>
     ensures { IfOk result (λ made. made ≡ Op.MoveTable table.now born to.now rec.now) }
@@ -180,7 +181,7 @@ fn copy_put_part(
     table: &Text,
     born: u64,
     values: &Texts,
-    rec: &PartRec,
+    rec: &Shared<PartRec>,
     alloc: Global,
 ) -> Result<Op, NoMemory>
     ensures { IfOk result (λ made. made ≡ Op.PutPart table.now born values.now rec.now) }
@@ -214,7 +215,7 @@ fn copy_move_part(
     born: u64,
     values: &Texts,
     to: &Texts,
-    rec: &PartRec,
+    rec: &Shared<PartRec>,
     alloc: Global,
 ) -> Result<Op, NoMemory>
     ensures { IfOk result (λ made. made ≡ Op.MovePart table.now born values.now to.now rec.now) }

@@ -3,6 +3,7 @@
 ghost use Rattle.std.specs.Prelude.{◌≡◌, IfOk};
 
 use cat_values::{CopyParts, DbRec, ListOf, NoMemory, PartRec, TableRec, Text, Texts, TryCopy};
+use shared_values::Shared;
 use std::alloc::Global;
 
 /// One object of a dumped database as it stood at the event number `at`.
@@ -17,7 +18,7 @@ pub enum Item {
         at: u64,
         table: Text,
         born: u64,
-        rec: TableRec,
+        rec: Shared<TableRec>,
     },
     /// A partition of the table with this name and born.
     Part {
@@ -25,7 +26,7 @@ pub enum Item {
         table: Text,
         born: u64,
         values: Texts,
-        rec: PartRec,
+        rec: Shared<PartRec>,
     },
 }
 
@@ -66,7 +67,7 @@ fn copy_table(
     at: u64,
     table: &Text,
     born: u64,
-    rec: &TableRec,
+    rec: &Shared<TableRec>,
     alloc: Global,
 ) -> Result<Item, NoMemory>
     ensures { IfOk result (λ made. made ≡ Item.Table at table.now born rec.now) }
@@ -87,7 +88,7 @@ fn copy_part(
     table: &Text,
     born: u64,
     values: &Texts,
-    rec: &PartRec,
+    rec: &Shared<PartRec>,
     alloc: Global,
 ) -> Result<Item, NoMemory>
     ensures { IfOk result (λ made. made ≡ Item.Part at table.now born values.now rec.now) }

@@ -25,4 +25,5 @@ pub use items::{Item, Items};
 pub use named::{NamedPart, NamedStat, NamedStats, NamedTable, Parts, Tables};
 pub use replicas::{Marked, MarkedOps, Phase, ReplicaRow};
 pub use replies::Reply;
+pub use shared_values::Shared;
 pub use steps::{Answer, DumpRefusal, Step};

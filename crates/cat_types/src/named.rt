@@ -1,6 +1,7 @@
 //! Objects with their names, as they are told.
 
 use cat_values::{CopyParts, ListOf, NoMemory, PartRec, StatRec, TableRec, Text, Texts, TryCopy};
+use shared_values::Shared;
 use std::alloc::Global;
 
 /// A table with its names.
@@ -8,7 +9,7 @@ use std::alloc::Global;
 pub struct NamedTable {
     pub db: Text,
     pub table: Text,
-    pub rec: TableRec,
+    pub rec: Shared<TableRec>,
 }
 
 /// A list of tables.
@@ -29,7 +30,7 @@ pub struct NamedPart {
     pub db: Text,
     pub table: Text,
     pub values: Texts,
-    pub rec: PartRec,
+    pub rec: Shared<PartRec>,
 }
 
 /// A list of partitions.

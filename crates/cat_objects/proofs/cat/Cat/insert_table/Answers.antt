@@ -11,7 +11,7 @@ pub returns-clause-ok : goal.returns-clause-ok
 returns-clause-ok c =
     on_ok_weaker c.put-put.result
     (λ put. tables_put c.args.self.now c.take_database-held.new.self c.put_back.new.self c.args.db.now c.take_database-held.result c.put-put.new.self (inserted c.args.name c.args.born c.args.rec) c.take_database-held.ensures.held c.take_database-held.ensures.left
-    (put ∙ ap (λ (made : HeldTable). insert_entry (slice_cmp nat_cmp) c.take_database-held.result.tables c.args.name made) c.new_table-made.ensures) c.put_back.ensures)
+    put c.put_back.ensures)
     c.put-put.ensures.ok
 
 pub returns-clause-err : goal.returns-clause-err

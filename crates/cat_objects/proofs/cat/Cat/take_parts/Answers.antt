@@ -1,9 +1,14 @@
-use Rattle.std.proofs.Common.{[]}
-use Rattle.cat_objects.specs.Changes.{with_parts}
-use Rattle.cat_objects.proofs.Editing.{held_put}
+use Rattle.std.proofs.Common.{[], ap, ◌∙◌}
+use Rattle.cat_objects.specs.Changes.{changed_parts}
+use Rattle.cat_objects.specs.Parts.{PartList}
+use Rattle.cat_objects.proofs.Editing.{tables_put}
 use Rattle.cat_objects.proofs.cat.Cat.take_parts.Goals as goal
+
+pub returns-clause-value : goal.returns-clause-value
+returns-clause-value c = ?
 
 pub returns-clause-left : goal.returns-clause-left
 returns-clause-left c =
-    held_put c.args.self.now c.take_table-born.new.self c.restore_table.new.self c.args.db.now c.args.name.now c.take_table-born.ensures.left.0 c.take_table-born.result c.new_table-emptied.result (λ held. with_parts [] held)
-    c.take_table-born.ensures.value c.take_table-born.ensures.left.1 c.new_table-emptied.ensures c.restore_table.ensures
+    tables_put c.args.self.now c.take_database-held.new.self c.put_back.new.self c.args.db.now c.take_database-held.result c.swap_parts-taken.new.self (changed_parts c.args.name.now (λ old. []))
+    c.take_database-held.ensures.held c.take_database-held.ensures.left
+    (c.swap_parts-taken.ensures.entries ∙ ap (λ (p : PartList). changed_parts c.args.name.now (λ old. p) c.take_database-held.result.tables) c.new.ensures) c.put_back.ensures

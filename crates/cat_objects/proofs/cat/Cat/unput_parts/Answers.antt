@@ -1,11 +1,8 @@
-use Rattle.std.proofs.Common.{ap}
-use Rattle.cat_objects.specs.Changes.{with_parts}
-use Rattle.cat_objects.specs.Parts.{PartList}
 use Rattle.cat_objects.specs.Changes.{unput}
-use Rattle.cat_objects.proofs.Editing.{held_put}
+use Rattle.cat_objects.proofs.Editing.{parts_put}
 use Rattle.cat_objects.proofs.cat.Cat.unput_parts.Goals as goal
 
 pub returns : goal.returns
 returns c =
-    held_put c.args.self.now c.take_table-held.new.self c.restore_table.new.self c.args.db.now c.args.name.now c.take_table-held.ensures.left.0 c.take_table-held.result (with_parts c.unput_in.new.parts c.take_table-held.result)
-    (λ held. with_parts ((unput c.args.puts.items) held.parts) held) c.take_table-held.ensures.value c.take_table-held.ensures.left.1 (ap (λ (parts : PartList). with_parts parts c.take_table-held.result) c.unput_in.ensures) c.restore_table.ensures
+    parts_put c.args.self.now c.take_parts-parts.new.self c.give_parts.new.self c.args.db.now c.args.name.now c.take_parts-parts.result c.unput_in.new.parts (unput c.args.puts.items)
+    c.take_parts-parts.ensures.value c.take_parts-parts.ensures.left c.unput_in.ensures c.give_parts.ensures
