@@ -63,3 +63,8 @@ opening_6 NoMemory c kind is due = absurd cc
 pub store_6 : (fault : OpenFault) (lies : Option Lies) → IsOpeningFault fault → refusal_status fault ≡ 6 → IfSome lies (λ d. RefusesBytes fault d.held) → IfSome lies (λ d. OpensNone d.held)
 store_6 fault None kind is due = tt
 store_6 fault (Some d) kind is due = opening_6 fault d.held kind is due
+
+-- the same where an opening was refused
+pub opening_store : (fault : OpenFault) (lies : Option Lies) (status : ℕ) → IsOpeningFault fault → (fault ≡ Foreign → IfSome lies (λ d. IsForeign d.held)) → ((at : ℕ) → fault ≡ Broken at → IfSome lies (λ d. IsBrokenStore at d.held))
+    → status ≡ refusal_status fault → status ≡ 6 → IfSome lies (λ d. OpensNone d.held)
+opening_store fault lies status kind foreign broken is six = store_6 fault lies kind (sym is ∙ six) (opening_bytes fault lies kind foreign broken)
