@@ -31,3 +31,4 @@ pub mod Stores
 pub mod Equality
 pub mod Marking
 pub mod NewerParts
+pub mod Example

@@ -11,3 +11,4 @@ pub mod Stores
 pub mod Tests
 pub mod Laws
 pub mod StoreLaws
+pub mod Example
