@@ -1,19 +1,17 @@
 -- The example meets what the laws ask for.
-use Rattle.std.proofs.Common.{◌≡◌, ◌⊎◌, inl, inr, ℕ, zero, suc, ◌+◌, ◌≤◌, ◌<◌, Bool, true, false, [], ◌∷◌, cond, Option, Some, None, refl, sym, ◌∙◌, ap, subst, arith, add-one}
+use Rattle.std.proofs.Common.{◌≡◌, ℕ, zero, suc, ◌≤◌, ◌<◌, Bool, true, false, [], ◌∷◌, cond, Some, None, refl, sym, ◌∙◌, ap, subst, arith, add-one}
 use Rattle.std.specs.Option.{option_map}
-use Rattle.cat_objects.specs.Catalogue.{is_name, new_catalogue, parts_of}
+use Rattle.cat_objects.specs.Catalogue.{is_name, parts_of}
 use Rattle.cat_objects.specs.Changes.{done, takes_change}
-use Rattle.cat_objects.specs.Parts.{PartList, are_values, at_values}
+use Rattle.cat_objects.specs.Parts.{PartList, at_values}
 use Rattle.cat_objects.specs.declared.held.HeldTable.{HeldTable}
-use Rattle.cat_types.specs.declared.changes.Op.{Op}
 use Rattle.cat_types.specs.declared.changes.Op.TheVariants.{MoveTable, PutPart, PutTable}
 use Rattle.cat_values.specs.declared.records.PartRec.{PartRec}
-use Rattle.cat_values.specs.declared.records.TableRec.{TableRec}
 use Rattle.replicas.specs.Catalogues.{shown_table}
 use Rattle.replicas.specs.Example.{ExampleGoesLive, ExampleIsDumped, ExampleIsHistory, event_of, made_at, other_table, the_cats, the_changes, the_db, the_items, the_part, the_table, the_values}
 use Rattle.replicas.specs.Histories.{BornsAreNew, source_of}
 use Rattle.replicas.specs.Life.{ops_of}
-use Rattle.replicas.specs.Objects.{Name, Values, Table, Has, HasBorn, IsPart, SameMarks, Together}
+use Rattle.replicas.specs.Objects.{Name, Values, Table, SameMarks}
 use Rattle.replicas.specs.Source.{AllApart, Each, IsNoMove}
 use Rattle.replicas.specs.Stands.{StandsEvents, UnderTable}
 use Rattle.replicas.specs.Stores.{RedoesEvents, Store, replayed, replica_of}

@@ -8,6 +8,7 @@ use Rattle.cat_objects.specs.Changes.{done, done_op, done_ops, fits_creation, fi
 use Rattle.cat_objects.specs.declared.held.HeldDb.{HeldDb}
 use Rattle.cat_objects.specs.declared.held.HeldTable.{HeldTable}
 use Rattle.cat_objects.specs.Parts.{at_values}
+use Rattle.cat_objects.proofs.Fitting.{fitting_finds}
 use Rattle.cat_objects.proofs.Seeing.{after_is, db_after}
 use Rattle.cat_objects.proofs.Taking.{first_of, last_of}
 use Rattle.cat_types.specs.declared.changes.Change.{Change}
@@ -18,16 +19,16 @@ use Rattle.cat_types.specs.declared.changes.Op.TheVariants.{DropDb, DropPart, Dr
 use Rattle.cat_values.specs.Names.{is_object_name}
 use Rattle.cat_values.specs.declared.records.DbRec.{DbRec}
 use Rattle.replicas.specs.Catalogues.{IsInOrder, is_sound, objects_in, objects_of, shown_db, shown_table}
-use Rattle.replicas.specs.Histories.{AreChanges, BornsAreNew, source_of}
+use Rattle.replicas.specs.Histories.{AreChanges, AreLawful, BornsAreNew, source_of}
 use Rattle.replicas.specs.Laws.{Passes}
 use Rattle.replicas.specs.Life.{BeginsEmpty, Happened, HasDb, Life, called, created, dropped, elsewhere}
 use Rattle.replicas.specs.Objects.{Name, Values, Table, Objects, Has, SameObjects}
 use Rattle.replicas.specs.Operations.{Done, touches_tab}
 use Rattle.replicas.specs.Source.{AllApart, Each, Steps}
-use Rattle.replicas.specs.StoreLaws.{ChangesAreLives, HistoriesStayInOrder}
+use Rattle.replicas.specs.StoreLaws.{ChangesAreLives, HistoriesAreLawful, HistoriesStayInOrder}
 use Rattle.replicas.proofs.Basics.{Same, same_name, not_both}
 use Rattle.replicas.proofs.CatalogueDone.{done_by_catalogue, dropped_is_gone, order_stays, orders_stay, others_stay, same_in}
-use Rattle.replicas.proofs.Fitting.{AreNamed, fits_fact, sound_fact}
+use Rattle.replicas.proofs.Fitting.{AreNamed, fits_fact, lawful_test, sound_fact}
 use Rattle.replicas.proofs.Growing.{tells_tab}
 use Rattle.replicas.proofs.Invariants.{numbers_up}
 use Rattle.replicas.proofs.LiveKeeps.{db_stays_there}
@@ -95,12 +96,27 @@ ops_come d born e (op ∷ ops) cat order there named fits new =
       there = more.there;
     }
 
+-- each of them is lawful and finds what it needs
+pub ops_lawful : (d : Name) (born : ℕ) (ops : List Op) (cat : Catalogue) → IsInOrder cat → Has (objects_of d cat).db → AreNamed (objects_of d cat) → fits_ops cat d born ops ≡ true → AreLawful d born cat ops
+ops_lawful d born [] cat order there named fits = tt
+ops_lawful d born (op ∷ ops) cat order there named fits =
+    let first = first_of (fits_op cat d op) (fits_ops (done_op d born cat op) d born ops) fits in
+    let rest = last_of (fits_op cat d op) (fits_ops (done_op d born cat op) d born ops) fits in
+    let sound = sound_fact cat d op there named first in
+    let fact = fits_fact cat d op there first in
+    let step = done_by_catalogue d born op cat order there fact in (
+      lawful_test cat d op sound fact,
+      fitting_finds cat d op first,
+      ops_lawful d born ops (done_op d born cat op) (order_stays d born op cat order) (db_stays_there op (objects_of d cat) (objects_of d (done_op d born cat op)) step there)
+      (named_step op (objects_of d cat) (objects_of d (done_op d born cat op)) sound step named) rest,
+    )
+
 -- ---- a change by its kind
 
 -- it makes a database, drops one, or does operations on one
 pub data IsOneOf (cat : Catalogue) (e : ℕ) (c : Change) : Type 0 where
   makes : (rec : DbRec) → c.ops ≡ PutDb rec ∷ [] → c.db_born ≡ e → database cat c.db ≡ None → IsOneOf cat e c
-  drops : c.ops ≡ DropDb ∷ [] → IsOneOf cat e c
+  drops : has_database cat c.db ≡ true → c.ops ≡ DropDb ∷ [] → IsOneOf cat e c
   works : HasDb c.db_born (objects_of c.db cat) → fits_ops cat c.db c.db_born c.ops ≡ true → IsOneOf cat e c
 
 only_put : (ops : List Op) → is_one is_put_db ops ≡ true → (rec : DbRec) × (ops ≡ PutDb rec ∷ [])
@@ -160,8 +176,12 @@ creation cat e c is =
     makes only.0 only.1 (equal_born c.db_born e (first_of (c.db_born == e) (is_one is_put_db c.ops) rest))
     (no_database (database cat c.db) (first_of (not (has_database cat c.db)) ((c.db_born == e) && is_one is_put_db c.ops) free))
 
+has_born : (b : ℕ) (o : Option HeldDb) → is_born b o ≡ true → is_some o ≡ true
+has_born b None is = absurd cc
+has_born b (Some held) is = refl
+
 dropping : (cat : Catalogue) (e : ℕ) (c : Change) → fits_drop cat c ≡ true → IsOneOf cat e c
-dropping cat e c is = drops (only_drop c.ops (last_of (is_born c.db_born (database cat c.db)) (is_one is_drop_db c.ops) is))
+dropping cat e c is = drops (has_born c.db_born (database cat c.db) (first_of (is_born c.db_born (database cat c.db)) (is_one is_drop_db c.ops) is)) (only_drop c.ops (last_of (is_born c.db_born (database cat c.db)) (is_one is_drop_db c.ops) is))
 
 working : (cat : Catalogue) (e : ℕ) (c : Change) → fits_database cat c ≡ true → IsOneOf cat e c
 working cat e c is =
@@ -198,7 +218,7 @@ happens e c cat w order named is new apart = by_name (same_name c.db w)
         created (ap (λ (o : Option HeldDb). (objects_in o).db) none)
         (subst (λ (l : List Op). BeginsEmpty e (objects_of c.db (done_ops c.db c.db_born cat l))) (sym only)
         (subst (λ (k : ℕ). BeginsEmpty k (objects_of c.db (done_ops c.db c.db_born cat (PutDb rec ∷ [])))) born (empty_made c.db c.db_born rec cat none)))
-    here (drops only) =
+    here (drops there only) =
         dropped (subst (λ (l : List Op). (objects_of c.db (done_ops c.db c.db_born cat l)).db ≡ None) (sym only) (ap (λ (o : Option HeldDb). (objects_in o).db) (dropped_is_gone c.db c.db_born cat order)))
     here (works db fits) =
         let come = ops_come c.db c.db_born e c.ops cat order (record { value = db.held; is = db.is }) named fits new in
@@ -221,7 +241,7 @@ named_behind e c cat w stays is new = by_name (same_name c.db w)
     here : IsOneOf cat e c → AreNamed (objects_of c.db (done c cat))
     here (makes rec only born none) m x there =
         absurd (not_both ((empty_made c.db c.db_born rec cat none).no_tables m) (subst (λ (l : List Op). (objects_of c.db (done_ops c.db c.db_born cat l)).tab m ≡ Some x) only there))
-    here (drops only) m x there =
+    here (drops has only) m x there =
         absurd (not_both (ap (λ (o : Option HeldDb). (objects_in o).tab m) (dropped_is_gone c.db c.db_born cat stays.order)) (subst (λ (l : List Op). (objects_of c.db (done_ops c.db c.db_born cat l)).tab m ≡ Some x) only there))
     here (works db fits) m x there = (ops_come c.db c.db_born e c.ops cat stays.order (record { value = db.held; is = db.is }) (stays.named c.db) fits new).named m x there
 
@@ -262,3 +282,15 @@ changes_are_lives w cats changes base newest h = history_is_life cats changes ba
 
 pub stay_in_order : HistoriesStayInOrder
 stay_in_order cats changes base newest e h low high = (all_stay cats changes base newest h e low high).order
+
+-- ---- what is lawful
+
+change_lawful : (e : ℕ) (c : Change) (cat : Catalogue) → Stays cat → IsOneOf cat e c → AreLawful c.db c.db_born cat c.ops
+change_lawful e c cat stays (makes rec only born none) = subst (λ (l : List Op). AreLawful c.db c.db_born cat l) (sym only) (refl, refl, tt)
+change_lawful e c cat stays (drops has only) = subst (λ (l : List Op). AreLawful c.db c.db_born cat l) (sym only) (refl, has, tt)
+change_lawful e c cat stays (works db fits) = ops_lawful c.db c.db_born c.ops cat stays.order (record { value = db.held; is = db.is }) (stays.named c.db) fits
+
+pub are_lawful : HistoriesAreLawful
+are_lawful cats changes base newest e h low high =
+    let stays = all_stay cats changes base newest h e low (omega (arith, high)) in
+    change_lawful (e + 1) (changes (e + 1)) (cats e) stays (taken_is (cats e) (e + 1) (changes (e + 1)) (h.taken e low high))

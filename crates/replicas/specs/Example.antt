@@ -1,11 +1,10 @@
 -- A history, a half-loaded replica of its database, and a live one: what the laws ask for can be met.
-use Rattle.std.specs.Prelude.{◌≡◌, ℕ, zero, suc, pos, false, List, [], ◌∷◌, codes, filter, None}
+use Rattle.std.specs.Prelude.{ℕ, zero, suc, pos, false, [], ◌∷◌, codes, filter, None}
 use Rattle.cat_objects.specs.Catalogue.{Catalogue, empty_record, new_catalogue}
 use Rattle.cat_objects.specs.Changes.{done}
 use Rattle.cat_types.specs.declared.changes.Change.{Change}
 use Rattle.cat_types.specs.declared.changes.Event.{Event}
 use Rattle.cat_types.specs.declared.changes.EventKind.TheVariants as kind
-use Rattle.cat_types.specs.declared.changes.Op.{Op}
 use Rattle.cat_types.specs.declared.changes.Op.TheVariants.{MoveTable, PutDb, PutPart, PutTable}
 use Rattle.cat_values.specs.declared.records.PartRec.{PartRec}
 use Rattle.cat_values.specs.declared.records.TableRec.{TableRec}

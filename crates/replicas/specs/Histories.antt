@@ -2,6 +2,7 @@
 use Rattle.std.specs.Prelude.{◌≡◌, ◌⊎◌, ℕ, ◌+◌, ◌<◌, ◌≤◌, true, List, [], ◌∷◌, None}
 use Rattle.cat_objects.specs.Catalogue.{Catalogue}
 use Rattle.cat_objects.specs.Changes.{done, done_op, takes_change}
+use Rattle.cat_objects.specs.Lawful.{finds, is_lawful}
 use Rattle.cat_types.specs.declared.changes.Change.{Change}
 use Rattle.cat_types.specs.declared.changes.Op.{Op}
 use Rattle.cat_types.specs.declared.changes.Op.TheVariants.{PutPart}
@@ -28,6 +29,11 @@ pub record AreChanges (cats : ℕ → Catalogue) (changes : ℕ → Change) (bas
   pub taken : (e : ℕ) → base ≤ e → e < newest → takes_change (cats e) (e + 1) (changes (e + 1)) ≡ true
   pub news : (e : ℕ) → base ≤ e → e < newest → BornsAreNew (e + 1) (changes (e + 1)).db (changes (e + 1)).db_born (cats e) (changes (e + 1)).ops
   pub apart : (e : ℕ) → base ≤ e → e < newest → AllApart (changes (e + 1)).ops
+
+-- operations are lawful and find what they drop, move or stand under, each after those before it
+abbrev pub AreLawful : Name → ℕ → Catalogue → List Op → Type 0
+AreLawful d born cat [] = Unit {0}
+AreLawful d born cat (op ∷ ops) = (is_lawful cat d op ≡ true) × (finds cat d op ≡ true) × AreLawful d born (done_op d born cat op) ops
 
 -- the objects of the database w after each number
 abbrev pub source_of : Name → (ℕ → Catalogue) → ℕ → Objects

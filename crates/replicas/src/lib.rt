@@ -3,6 +3,7 @@
 #![tactic(auto)]
 
 mod laws;
+mod premises;
 mod store_laws;
 
 pub use laws::{
@@ -11,6 +12,7 @@ pub use laws::{
     events_end_live, increments_stay_live, marks_never_fall, marks_tell_changes, newer_parts_stay,
     repeated_replays_do_nothing, replay_never_goes_back,
 };
+pub use premises::premises_can_be_met;
 pub use store_laws::{
     histories_are_lives, live_replicas_are_equal, operations_act_where_they_take_effect,
     operations_are_done_on_catalogues, store_events_keep, stores_go_live, stores_replay,

@@ -8,6 +8,7 @@ ghost use Rattle.replicas.specs.StoreLaws.{
   DoneOnCatalogues,
   DropsNeverAct,
   FittingActs,
+  HistoriesAreLawful,
   HistoriesStayInOrder,
   LiveReplicasAreEqual,
   NewStoresAreNew,
@@ -36,10 +37,12 @@ pub fn operations_are_done_on_catalogues()
     ensures replayed { ReplaysAreDone }
 {}
 
-/// The changes of a history are a life of each database, and keep names in order; a new store begins one,
-/// what a call changes is apart, and entries that rise are in order.
+/// The changes of a history are a life of each database, each of their operations is lawful after those
+/// before it, and names stay in order; a new store begins a history, what a call changes is apart, and
+/// entries that rise are in order.
 pub fn histories_are_lives()
     ensures lives { ChangesAreLives }
+    ensures lawful { HistoriesAreLawful }
     ensures order { HistoriesStayInOrder }
     ensures new_stores { NewStoresAreNew }
     ensures calls { CallsAreApart }
