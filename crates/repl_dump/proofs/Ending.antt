@@ -1,5 +1,5 @@
 -- How a dump that was begun ends.
-use Rattle.std.proofs.Common.{◌≡◌, ◌≢◌, ◌⊎◌, ℕ, ◌<◌, ◌^◌, List, [], ◌∷◌, ◌++◌, length, map, codes, Option, Some, None, refl, sym, ◌∙◌, ap, subst, inl, inr, append_assoc, arith}
+use Rattle.std.proofs.Common.{◌≡◌, ◌≢◌, ◌⊎◌, ℕ, ◌<◌, ◌^◌, List, [], ◌∷◌, ◌++◌, length, map, codes, Option, Some, None, Result, Ok, Err, refl, sym, ◌∙◌, ap, subst, inl, inr, append_assoc, arith}
 use Rattle.std.proofs.lemmas.List.{append-nil, append_cancel_left, map-append}
 use Rattle.cat_types.specs.declared.items.Item.{Item}
 use Rattle.cat_types.specs.declared.steps.Answer.{Answer}
@@ -13,7 +13,13 @@ use Rattle.dump_texts.specs.Texts.{at_path, dump_dir, dump_text, end_told, event
 use Rattle.dump_texts.specs.declared.kinds.FileKind.{FileKind}
 use Rattle.dump_texts.specs.declared.kinds.FileKind.TheVariants.{EventFile, ItemFile}
 use Rattle.dump_texts.proofs.Told.{event_texts_both, item_texts_both}
-use Rattle.hms_outside.specs.Told.{Goes as Leads}
+use Rattle.std.specs.BTreeMap.{insert_entry}
+use Rattle.std.specs.Cmp.Lexicographic.{slice_cmp}
+use Rattle.std.specs.Ordering.{nat_cmp}
+use Rattle.hms_outside.specs.Folders.{Puts, file}
+use Rattle.hms_outside.specs.Told.{Goes as Leads, Same}
+use Rattle.hms_outside.specs.declared.outage.Outage.{Outage}
+use Rattle.hms_outside.specs.declared.outage.Outage.TheVariants as outages
 use Rattle.repl_dump.specs.Beginnings.{began_of, manifest_of}
 use Rattle.repl_dump.specs.Dumps.{SomeTold}
 use Rattle.repl_dump.specs.Endings.{EndsBroken, EndsDone, EndsSo, StandsBegun, StaysBy, WritesFiles, dir_of, failed_answer}
@@ -29,6 +35,7 @@ use Rattle.repl_dump.proofs.Growing.{end_more}
 use Rattle.repl_dump.proofs.Putting.{gained_none, stays_both}
 use Rattle.repl_dump.proofs.Standing.{among_files, grown}
 use Rattle.repl_dump.proofs.Stepping.{goes_both}
+use Rattle.repl_dump.proofs.Writing.{put_text}
 
 -- ---- folders
 
@@ -233,3 +240,31 @@ ends_done db beginning own ending writer first between last ends goes stands put
   where
     began : Began
     began = began_of beginning
+
+-- ---- the manifest is put
+
+pub manifest_put : (dir text path bytes : List ℕ) (before after : Option Files) → path ≡ path_in dir (codes "manifest") → bytes ≡ text
+    → Leads (λ files later. later ≡ insert_entry (slice_cmp nat_cmp) files path bytes) before after → Leads (Gained ((path_in dir (codes "manifest"), text) ∷ [])) before after
+manifest_put dir text path bytes before after p d h = put_text dir (codes "manifest", text) path bytes before after p d h
+
+-- it wasn't: after a fault any bytes may be there, and after want of memory nothing changed
+pub manifest_stays : {T : Type 0} (result : Result T Outage) (outage : Outage) (failed : Failure) (dir path bytes : List ℕ) (before after : Option Files) → path ≡ path_in dir (codes "manifest") → IsOwn failed → (failed ≡ failure.FolderFault → outage ≡ outages.Failed)
+    → (failed ≡ failure.NoMemory → outage ≡ outages.NoMemory) → result ≡ Err outage → Puts before after path bytes result → Leads (StaysBy failed dir) before after
+manifest_stays {T} result outage failed dir path bytes before after p own cause memory is puts = by failed own cause memory outage (subst (λ (r : Result T Outage). Puts before after path bytes r) is puts) refl
+  where
+    torn : (old new : Option Files) → Leads (λ files later. (other : List ℕ) → other ≢ path → file later other ≡ file files other) old new → Leads (OutsideStays dir) old new
+    torn None new h = tt
+    torn (Some f) None h = h
+    torn (Some f) (Some g) h = λ name apart. h name (λ q. apart (codes "manifest") (q ∙ p))
+    same : (old new : Option Files) → Leads Same old new → Leads (OthersStay dir) old new
+    same None new h = tt
+    same (Some f) None h = h
+    same (Some f) (Some g) h = λ name apart. ap (λ (files : Files). file files name) h
+    apart : outages.NoMemory ≡ outages.Failed → ⊥
+    apart q = absurd cc
+    by : (f : Failure) → IsOwn f → (f ≡ failure.FolderFault → outage ≡ outages.Failed) → (f ≡ failure.NoMemory → outage ≡ outages.NoMemory) → (o : Outage) → Puts {T} before after path bytes (Err o) → o ≡ outage → Leads (StaysBy f dir) before after
+    by (failure.Refused refusal) mine c m o h q = absurd mine
+    by failure.FolderFault mine c m outages.Failed h q = torn before after h
+    by failure.FolderFault mine c m outages.NoMemory h q = absurd (apart (q ∙ c refl))
+    by failure.NoMemory mine c m outages.Failed h q = absurd (apart (sym (q ∙ m refl)))
+    by failure.NoMemory mine c m outages.NoMemory h q = same before after h

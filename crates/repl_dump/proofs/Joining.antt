@@ -93,9 +93,9 @@ opened_begun s me db asked began told = by (refused_dump s db asked) (database s
         let number : began.dump ≡ dump.number = cc in
         let first : began.first ≡ first_item (kind_of asked.from) s.newest held = cc in
         (dump,
-         (subst (λ (n : ℕ). open_dump me n (without_dump me dump.number s.dumps ++ dump ∷ []) ≡ Some dump) (sym number)
+         subst (λ (n : ℕ). open_dump me n (without_dump me dump.number s.dumps ++ dump ∷ []) ≡ Some dump) (sym number)
             (begun_found me dump.number dump s.dumps (ap (λ (b : Bool). b && (dump.number == dump.number)) (eq-eqb me me refl) ∙ eq-eqb dump.number dump.number refl)),
-          first_allowed s.newest began.begin asked.from held began.first first))
+         first_allowed s.newest began.begin asked.from held began.first first)
 
 pub begun_takes : (me : ℕ) (start : Start) (before : List Entry) (wanted : Wanted) (began : Began) (given : Answer) (fault : ℕ) → given ≡ began_answer began → Legal start (before ++ entry_of me (begin_step wanted) given fault ∷ [])
     → Takes (allows (place_begun began.begin began.first)) me began.dump start (before ++ entry_of me (begin_step wanted) given fault ∷ [])

@@ -10,6 +10,7 @@ pub mod Opening
 pub mod Turning
 pub mod Stopping
 pub mod Nearing
+pub mod Taking
 pub mod Ending
 pub mod NotOpen
 pub mod Joining

@@ -72,6 +72,6 @@ made_or_nearer writer at.End begin given to fits came = absurd fits
 pub nearer : (old new : Writer) (from to : At) (begin : ℕ) (given : Answer) → FitsPlace (place_of from) given → Moves begin (place_of from) given (place_of to)
     → new.files ≡ old.files ++ map line_of (files_next old given) → length new.files ≤ LIST_END → steps_left new to < steps_left old from
 nearer old new from to begin given fits moves lines most =
-    let grown : length new.files ≡ length old.files + made old given = ap length lines ∙ (length-append old.files (map line_of (files_next old given)) ∙ ap (λ n. length old.files + n) (length-map line_of (files_next old given))) in
+    let grown : length new.files ≡ length old.files + made old given = ap length lines ∙ (length-append old.files (map line_of (files_next old given)) ∙ ap (λ n. length old.files + n) (length-map (files_next old given) line_of)) in
     let near : far (place_of to) < rank from + 4 * made old given = made_or_nearer old from begin given (place_of to) fits moves in
     omega (arith, grown, near, most, is_far to)

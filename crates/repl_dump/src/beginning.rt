@@ -19,7 +19,7 @@ pub struct Beginning {
 }
 
 /// What the answer to the first step tells: the dump was begun, or how it ends already.
-pub fn beginning(answer: Answer) -> Result<Beginning, DumpAnswer>
+pub fn begun(answer: Answer) -> Result<Beginning, DumpAnswer>
     requires { AnswersBegin answer }
     ensures begun { IfOk result (λ beginning. answer ≡ began_answer (began_of beginning)) }
     ensures unbegun { IfErr result (λ told. Unbegins told answer) }

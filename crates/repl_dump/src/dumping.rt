@@ -6,7 +6,7 @@ ghost use Rattle.desk.specs.History.{Legal, NoneAbove};
 ghost use Rattle.hms_outside.specs.Causes.{Rose};
 ghost use Rattle.repl_dump.specs.Dumps.{Dumps};
 
-use crate::beginning::beginning;
+use crate::beginning::begun;
 use crate::begun_dump::dump_begun;
 use cat_types::{DumpRefusal, LowerName, Step, Text, TryCopy};
 use desk::Desk;
@@ -57,8 +57,8 @@ pub fn dump<K: Desk, F: Folder>(
         to,
         limit,
     };
-    match beginning(desk.step(step)) {
-        Ok(begun) => dump_begun(alloc, desk, folder, name.as_text(), begun),
+    match begun(desk.step(step)) {
+        Ok(beginning) => dump_begun(alloc, desk, folder, name.as_text(), beginning),
         Err(answer) => answer,
     }
 }

@@ -30,6 +30,7 @@ impl From<NoMemory> for Failure {
 pub fn failure_of(outage: Outage) -> Failure
     ensures own { IsOwn result }
     ensures failed { result ≡ Failure.FolderFault → outage ≡ Outage.Failed }
+    ensures memory { result ≡ Failure.NoMemory → outage ≡ Outage.NoMemory }
 {
     match outage {
         Outage::Failed => Failure::FolderFault,

@@ -14,7 +14,7 @@ use crate::arriving::go_on;
 use crate::asking::step_of;
 use crate::failure::Failure;
 use crate::place::Place;
-use crate::writer::Writer;
+use crate::writer::{Writer, counts_fit};
 use desk::Desk;
 use hms_outside::Folder;
 use std::alloc::Global;
@@ -43,7 +43,10 @@ pub fn walk<K: Desk, F: Folder>(
     ensures ends { Adds K.alone (K.caller desk.old) (K.history desk.old) (K.history desk.new) (Ends number begin (place_of place) result writer.old writer.new (F.files folder.old) (F.files folder.new)) }
 {
     while !place.is_end() {
-        place = take_step(alloc, desk, folder, writer, number, begin, place)?;
+        place = match take_step(alloc, desk, folder, writer, number, begin, place) {
+            Ok(next) => next,
+            Err(failure) => return Err(failure),
+        };
     }
     Ok(())
 }
@@ -77,5 +80,6 @@ fn take_step<K: Desk, F: Folder>(
         return Err(Failure::NoMemory);
     };
     let answer = desk.step(step);
+    counts_fit(writer.items, writer.events);
     go_on(alloc, folder, writer, begin, place, answer)
 }

@@ -1,6 +1,6 @@
 //! What writes the files of a dump.
 
-ghost use Rattle.std.specs.Prelude.{◌≡◌, ◌≤◌, ◌∷◌, [], ◌++◌, ◌+◌, IfOk, IsErrOf, OnErr, OnOk};
+ghost use Rattle.std.specs.Prelude.{◌≡◌, ◌≤◌, ◌<◌, ◌^◌, ◌∷◌, [], ◌++◌, ◌+◌, IfOk, IsErrOf, OnErr, OnOk};
 ghost use Rattle.dump_manifest.specs.Manifests.{dir_text};
 ghost use Rattle.dump_texts.specs.Texts.{line_of, name_at, path_in};
 ghost use Rattle.hms_outside.specs.Causes.{Rose};
@@ -120,3 +120,9 @@ impl Writer {
         Ok(())
     }
 }
+
+/// Counts of files fit their type, which the proof that no name comes twice rests on.
+pub fn counts_fit(items: u64, events: u64)
+    ensures items { items < 2 ^ 64 }
+    ensures events { events < 2 ^ 64 }
+{}
