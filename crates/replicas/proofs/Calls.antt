@@ -17,7 +17,7 @@ use Rattle.cat_types.specs.declared.changes.Op.TheVariants.{DropDb, DropPart, Dr
 use Rattle.replicas.specs.Catalogues.{objects_in, shown_db}
 use Rattle.replicas.specs.Histories.{OtherValues, ValuesDiffer}
 use Rattle.replicas.specs.Life.{HasDb}
-use Rattle.replicas.specs.Objects.{Name}
+use Rattle.replicas.specs.Objects.{Name, Values}
 use Rattle.replicas.specs.Source.{AllApart, Each, IsApart}
 use Rattle.replicas.specs.StoreLaws.{CallsAreApart, NewStoresAreNew, RisingIsInOrder}
 use Rattle.replicas.proofs.TablesDone.{Rises, ValuesRise}
@@ -54,7 +54,7 @@ apart_of : (op later : Op) → PutsPart op → PutsPart later → OtherValues op
 apart_of (PutPart n b v rec) (PutPart m c w other) p q off = record {
   db = λ t u. t;
   tabs = λ k t u. t;
-  parts = λ k x t u. off (sym t.1 ∙ u.1);
+  parts = λ k x t u. off v refl (ap (λ (y : Values). Some y) (sym u.1 ∙ t.1));
   under = λ k x t u. u;
 }
 apart_of (PutPart n b v rec) (PutDb other) p q off = absurd q

@@ -43,9 +43,10 @@ born_test b (Some held) h = is_equal held.born b (ap (λ (x : Table). x.0) (one 
 over_fact : (b : ℕ) (rec : TableRec) (o : Option HeldTable) → fits_over b rec o ≡ true → FitsOver b (length rec.keys) (shown o)
 over_fact b rec None is t there = absurd (not_both refl there)
 over_fact b rec (Some held) is t there =
-    let same : shown_table held ≡ t = one refl there in
-    (ap (λ (y : Table). y.0) (sym same) ∙ equal_of held.born b (first_of (held.born == b) (length held.rec.keys == length rec.keys) is),
-    ap (λ (y : Table). length y.1.keys) (sym same) ∙ equal_of (length held.rec.keys) (length rec.keys) (last_of (held.born == b) (length held.rec.keys == length rec.keys) is))
+    let same : shown_table held ≡ t = one refl there in (
+      ap (λ (y : Table). y.0) (sym same) ∙ equal_of held.born b (first_of (held.born == b) (length held.rec.keys == length rec.keys) is),
+      ap (λ (y : Table). length y.1.keys) (sym same) ∙ equal_of (length held.rec.keys) (length rec.keys) (last_of (held.born == b) (length held.rec.keys == length rec.keys) is),
+    )
 
 over_test : (b : ℕ) (rec : TableRec) (o : Option HeldTable) → FitsOver b (length rec.keys) (shown o) → fits_over b rec o ≡ true
 over_test b rec None h = refl

@@ -89,7 +89,7 @@ ops_come d born e (op ∷ ops) cat order there named fits new =
     let fact = fits_fact cat d op there first in
     let step = done_by_catalogue d born op cat order there fact in
     let more = ops_come d born e ops (done_op d born cat op) (order_stays d born op cat order) (db_stays_there op (objects_of d cat) (objects_of d (done_op d born cat op)) step there)
-        (named_step op (objects_of d cat) (objects_of d (done_op d born cat op)) sound step named) rest new.1 in record {
+    (named_step op (objects_of d cat) (objects_of d (done_op d born cat op)) sound step named) rest new.1 in record {
       steps = (objects_of d (done_op d born cat op), record { fits = fact; new = new.0; done = step }, more.steps);
       sound = (sound, more.sound);
       named = more.named;
@@ -108,7 +108,7 @@ ops_lawful d born (op ∷ ops) cat order there named fits =
       lawful_test cat d op sound fact,
       fitting_finds cat d op first,
       ops_lawful d born ops (done_op d born cat op) (order_stays d born op cat order) (db_stays_there op (objects_of d cat) (objects_of d (done_op d born cat op)) step there)
-      (named_step op (objects_of d cat) (objects_of d (done_op d born cat op)) sound step named) rest,
+          (named_step op (objects_of d cat) (objects_of d (done_op d born cat op)) sound step named) rest,
     )
 
 -- ---- a change by its kind

@@ -15,7 +15,6 @@ pub mod Life
 pub mod Filtered
 pub mod WholeFolders
 pub mod Stopped
-pub mod Present
 pub mod Untouched
 pub mod Keeping
 pub mod Repeats

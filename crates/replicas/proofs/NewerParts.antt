@@ -63,7 +63,7 @@ module _ (Sound : Op → Type 0) (after : ℕ → Objects) (ops : ℕ → List O
       let first = one_stays op later s steps.0 r replays.0 steps.1 apart.0 steps.2 nm.0 borns between replays.1 m w p is newer in
       let next = one_keeps Sound after ops made newest begin e end source no_moves from to begun within op later s steps.0 r replays.0 steps.1 apart.0 steps.2 nm.0 sound.0 held borns between replays.1 in
       let rest = all_stay later steps.0 replays.0 r' steps.2 apart.1 nm.1 sound.1 (held_step op s steps.0 steps.1.fits steps.1.done held) (borns_step (e + 1) op s steps.0 steps.1 borns) next replays.2 m w p
-          (first.object ∙ is) (subst (λ (k : ℕ). e + 1 ≤ k) (sym first.mark) newer) in
+      (first.object ∙ is) (subst (λ (k : ℕ). e + 1 ≤ k) (sym first.mark) newer) in
       record { object = rest.object ∙ first.object; mark = rest.mark ∙ first.mark }
 
   event_leaves : (at : ℕ) → at ≤ e → Quiet ops at e → (r r' : Replica) → ReplaysAll Sound (e + 1) (ops (e + 1)) r r' → StandsEvents after begin at end r → (m : Name) (w : Values) (p : PartRec) → r.objects.par m w ≡ Some p → e + 1 ≤ r.marks.par m w → SamePart m w r r'

@@ -18,6 +18,7 @@ use Rattle.replicas.specs.Source.{NoMoves}
 use Rattle.replicas.specs.Stands.{StandsEvents, StandsLive}
 use Rattle.replicas.specs.Stores.{RedoesEvents, Store, replica_of}
 
+-- the names in the example
 abbrev pub the_db : Name
 the_db = codes "d"
 
@@ -27,12 +28,15 @@ the_table = codes "t"
 abbrev pub other_table : Name
 other_table = codes "u"
 
+-- the values of its one partition
 abbrev pub the_values : Values
 the_values = codes "1" ∷ []
 
+-- a storage without anything in it
 abbrev pub no_storage : Storage
 no_storage = record { cols = []; location = None; input = None; output = None; compressed = false; buckets = pos 0; serde = None; bucket_cols = []; sort_cols = []; params = []; skew = None; sub_dirs = None }
 
+-- the table's one key
 abbrev pub the_key : Column
 the_key = record { name = codes "k"; ty = codes "string"; comment = None }
 
@@ -40,6 +44,7 @@ the_key = record { name = codes "k"; ty = codes "string"; comment = None }
 abbrev pub made_at : ℕ → TableRec
 made_at moment = record { owner = None; created = pos moment; accessed = pos 0; retention = pos 0; sd = no_storage; keys = the_key ∷ []; params = []; view_original = None; view_expanded = None; kind = None; stats = [] }
 
+-- and its record
 abbrev pub the_part : PartRec
 the_part = record { created = pos 0; accessed = pos 0; sd = None; params = []; stats = [] }
 
@@ -57,6 +62,7 @@ abbrev pub the_cats : ℕ → Catalogue
 the_cats zero = new_catalogue
 the_cats (suc k) = done (the_changes (suc k)) (the_cats k)
 
+-- the event with a number
 abbrev pub event_of : ℕ → Event
 event_of n = record { id = n; moment = 0; change = the_changes n }
 

@@ -1,14 +1,14 @@
 -- The catalogues and the changes of a source's history, by number.
-use Rattle.std.specs.Prelude.{◌≡◌, ◌⊎◌, ℕ, ◌+◌, ◌<◌, ◌≤◌, true, List, [], ◌∷◌, None}
+use Rattle.std.specs.Prelude.{◌≡◌, ◌⊎◌, ℕ, ◌+◌, ◌<◌, ◌≤◌, true, List, [], ◌∷◌, Option, Some, None}
 use Rattle.cat_objects.specs.Catalogue.{Catalogue}
 use Rattle.cat_objects.specs.Changes.{done, done_op, takes_change}
 use Rattle.cat_objects.specs.Lawful.{finds, is_lawful}
 use Rattle.cat_types.specs.declared.changes.Change.{Change}
 use Rattle.cat_types.specs.declared.changes.Op.{Op}
-use Rattle.cat_types.specs.declared.changes.Op.TheVariants.{PutPart}
+use Rattle.cat_types.specs.declared.changes.Op.TheVariants.{DropDb, DropPart, DropTable, MovePart, MoveTable, PutDb, PutPart, PutTable}
 use Rattle.replicas.specs.Catalogues.{IsInOrder, objects_of}
 use Rattle.replicas.specs.Life.{HasDb}
-use Rattle.replicas.specs.Objects.{Name, Objects}
+use Rattle.replicas.specs.Objects.{Name, Values, Objects}
 use Rattle.replicas.specs.Source.{AllApart, Each, MakesNew}
 
 -- where operations of event e, each after those before it, put a table at a name that has none, its born is e
@@ -39,10 +39,20 @@ AreLawful d born cat (op ∷ ops) = (is_lawful cat d op ≡ true) × (finds cat 
 abbrev pub source_of : Name → (ℕ → Catalogue) → ℕ → Objects
 source_of w cats k = objects_of w (cats k)
 
--- two puts of partitions have different values
+-- the values of the partition that an operation puts
+abbrev pub values_put : Op → Option Values
+values_put (PutDb rec) = None
+values_put DropDb = None
+values_put (PutTable n b rec) = None
+values_put (DropTable n b) = None
+values_put (MoveTable n b to rec) = None
+values_put (PutPart n b v rec) = Some v
+values_put (DropPart n b v) = None
+values_put (MovePart n b v to rec) = None
+
+-- two operations don't put partitions with the same values
 abbrev pub OtherValues : Op → Op → Type 0
-OtherValues (PutPart n b v rec) (PutPart m c w other) = v ≡ w → ⊥
-OtherValues op later = Unit {0}
+OtherValues op later = (v : Values) → values_put op ≡ Some v → values_put later ≡ Some v → ⊥
 
 -- no values are put twice
 abbrev pub ValuesDiffer : List Op → Type 0

@@ -51,6 +51,7 @@ FolderMayStop = (test : Op → Bool) (after : ℕ → Objects) (ops : ℕ → Li
     → ReplaysEvents (Passes test) events r r' → StandsEvents after begin at end r
     → StandsEvents after begin (reached at events) end r' × AreEvents ops (reached at events) end rest × (filter (is_above (reached at events)) (events ++ rest) ≡ rest)
 
+-- and so may a load into a live replica
 abbrev pub LiveFolderMayStop : Type 0
 LiveFolderMayStop = (test : Op → Bool) (after : ℕ → Objects) (ops : ℕ → List Op) (made newest at end : ℕ) (events rest : List Event) (r r' : Replica)
     → Source (Passes test) after ops made newest → made ≤ at → end ≤ newest → AreEvents ops at end (events ++ rest)

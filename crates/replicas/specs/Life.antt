@@ -7,12 +7,13 @@ use Rattle.cat_values.specs.declared.records.DbRec.{DbRec}
 use Rattle.replicas.specs.Objects.{Name, Values, Objects, SameObjects}
 use Rattle.replicas.specs.Source.{AllApart, Each, Steps}
 
+-- the database is there with that born
 pub record HasDb (b : ℕ) (s : Objects) : Type 0 where
   pub held : ℕ × DbRec
   pub is : s.db ≡ Some held
   pub born : held.0 ≡ b
 
--- a new database
+-- a new database: it has that born, and nothing in it
 pub record BeginsEmpty (b : ℕ) (s : Objects) : Type 0 where
   pub db : HasDb b s
   pub no_tables : (n : Name) → s.tab n ≡ None

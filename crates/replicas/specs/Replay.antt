@@ -25,26 +25,32 @@ pub record Acts (Sound : Op → Type 0) (e : ℕ) (op : Op) (r : Replica) : Type
 -- what is put or moved gets the mark e; partitions of a moved table keep theirs
 abbrev pub PutsMarks : ℕ → Op → Marks → Marks → Type 0
 PutsMarks e (PutDb rec) s t = t.db ≡ e
+PutsMarks e DropDb s t = t.db ≡ s.db
 PutsMarks e (PutTable n b rec) s t = (t.db ≡ s.db) × (t.tab n ≡ e)
+PutsMarks e (DropTable n b) s t = t.db ≡ s.db
 PutsMarks e (MoveTable n b to rec) s t = (t.db ≡ s.db) × (t.tab to ≡ e) × ((w : Values) → t.par to w ≡ s.par n w)
 PutsMarks e (PutPart n b v rec) s t = (t.db ≡ s.db) × (t.par n v ≡ e)
+PutsMarks e (DropPart n b v) s t = t.db ≡ s.db
 PutsMarks e (MovePart n b v to rec) s t = (t.db ≡ s.db) × (t.par n to ≡ e)
-PutsMarks e other s t = t.db ≡ s.db
 
+-- the marks behind an operation of event e that took effect: those that it touches are as it says, and all others stay
 pub record Marked (e : ℕ) (op : Op) (s t : Marks) : Type 0 where
   pub tabs : (m : Name) → (touches_tab op m → ⊥) → t.tab m ≡ s.tab m
   pub parts : (m : Name) (w : Values) → (touches_par op m w → ⊥) → t.par m w ≡ s.par m w
   pub puts : PutsMarks e op s t
 
+-- an operation of event e acted: it is done, and marks what it puts or moves
 pub record TookEffect (Sound : Op → Type 0) (e : ℕ) (op : Op) (r r' : Replica) : Type 0 where
   pub acts : Acts Sound e op r
   pub objects : Done op r.objects r'.objects
   pub marks : Marked e op r.marks r'.marks
 
+-- an operation of event e didn't act: all stays
 pub record HadNoEffect (Sound : Op → Type 0) (e : ℕ) (op : Op) (r r' : Replica) : Type 0 where
   pub acts_not : Acts Sound e op r → ⊥
   pub objects : SameObjects r.objects r'.objects
   pub marks : SameMarks r.marks r'.marks
 
+-- one operation of event e is replayed: it takes effect where it acts, and nowhere else
 abbrev pub Replays : (Op → Type 0) → ℕ → Op → Replica → Replica → Type 0
 Replays Sound e op r r' = TookEffect Sound e op r r' ⊎ HadNoEffect Sound e op r r'

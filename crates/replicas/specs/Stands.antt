@@ -19,6 +19,7 @@ pub record AsMarked (after : ℕ → Objects) (at end mark : ℕ) (P : Objects �
   pub within : mark ≤ end
   pub is : P (after (max mark at))
 
+-- a present partition stands under a present table, and is as after its mark or after `at`, under a table with that born
 pub record UnderTable (after : ℕ → Objects) (at end : ℕ) (r : Replica) (n : Name) (w : Values) (p : PartRec) : Type 0 where
   pub table : Table
   pub there : r.objects.tab n ≡ Some table
@@ -52,6 +53,7 @@ abbrev pub ReplaysAll : (Op → Type 0) → ℕ → List Op → Replica → Repl
 ReplaysAll Sound e [] r r' = SameObjects r.objects r'.objects × SameMarks r.marks r'.marks
 ReplaysAll Sound e (op ∷ ops) r r' = (q : Replica) × Replays Sound e op r q × ReplaysAll Sound e ops q r'
 
+-- events, one after the other
 abbrev pub ReplaysEvents : (Op → Type 0) → List Event → Replica → Replica → Type 0
 ReplaysEvents Sound [] r r' = SameObjects r.objects r'.objects × SameMarks r.marks r'.marks
 ReplaysEvents Sound (e ∷ es) r r' = (q : Replica) × ReplaysAll Sound e.id e.change.ops r q × ReplaysEvents Sound es q r'
