@@ -31,3 +31,4 @@ pub mod Equality
 pub mod Marking
 pub mod NewerParts
 pub mod Example
+pub mod DueEvents

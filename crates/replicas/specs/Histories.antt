@@ -1,9 +1,11 @@
 -- The catalogues and the changes of a source's history, by number.
-use Rattle.std.specs.Prelude.{◌≡◌, ◌⊎◌, ℕ, ◌+◌, ◌<◌, ◌≤◌, true, List, [], ◌∷◌, Option, Some, None}
+use Rattle.std.specs.Prelude.{zero, suc, ◌≡◌, ◌⊎◌, ℕ, ◌+◌, ◌<◌, ◌≤◌, true, List, [], ◌∷◌, Option, Some, None}
 use Rattle.cat_objects.specs.Catalogue.{Catalogue}
 use Rattle.cat_objects.specs.Changes.{done, done_op, takes_change}
 use Rattle.cat_objects.specs.Lawful.{finds, is_lawful}
 use Rattle.cat_types.specs.declared.changes.Change.{Change}
+use Rattle.cat_types.specs.declared.changes.Event.{Event}
+use Rattle.cat_types.specs.declared.changes.EventKind.TheVariants as kind
 use Rattle.cat_types.specs.declared.changes.Op.{Op}
 use Rattle.cat_types.specs.declared.changes.Op.TheVariants.{DropDb, DropPart, DropTable, MovePart, MoveTable, PutDb, PutPart, PutTable}
 use Rattle.replicas.specs.Catalogues.{IsInOrder, objects_of}
@@ -58,3 +60,33 @@ OtherValues op later = (v : Values) → values_put op ≡ Some v → values_put 
 abbrev pub ValuesDiffer : List Op → Type 0
 ValuesDiffer [] = Unit {0}
 ValuesDiffer (op ∷ ops) = Each (OtherValues op) ops × ValuesDiffer ops
+
+-- ---- events in a list
+
+-- the catalogue after the first k of these events
+abbrev pub after_first : ℕ → Catalogue → List Event → Catalogue
+after_first zero cat events = cat
+after_first (suc k) cat [] = cat
+after_first (suc k) cat (event ∷ events) = after_first k (done event.change cat) events
+
+-- a change that changes nothing, which stands where there is no event
+abbrev pub no_change : Change
+no_change = record { kind = kind.AlterDatabase; db = []; db_born = 0; ops = [] }
+
+-- the change of the event at this place, the first at 0
+abbrev pub change_at : ℕ → List Event → Change
+change_at i [] = no_change
+change_at zero (event ∷ events) = event.change
+change_at (suc i) (event ∷ events) = change_at i events
+
+-- an event has the next number, and the catalogue before it takes its change as that event; what it makes has a new born, and its operations are apart
+pub record IsDue (at : ℕ) (cat : Catalogue) (event : Event) : Type 0 where
+  pub number : event.id ≡ at + 1
+  pub taken : takes_change cat (at + 1) event.change ≡ true
+  pub news : BornsAreNew (at + 1) event.change.db event.change.db_born cat event.change.ops
+  pub apart : AllApart event.change.ops
+
+-- each event is due on what those before it make
+abbrev pub AllDue : ℕ → Catalogue → List Event → Type 0
+AllDue at cat [] = Unit {0}
+AllDue at cat (event ∷ events) = IsDue at cat event × AllDue (at + 1) (done event.change cat) events

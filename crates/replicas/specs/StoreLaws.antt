@@ -1,5 +1,5 @@
 -- The laws over the catalogues of a source and of a replica's store.
-use Rattle.std.specs.Prelude.{◌≡◌, ◌||◌, ℕ, ◌+◌, ◌<◌, ◌≤◌, true, List, [], Some, filter}
+use Rattle.std.specs.Prelude.{◌≡◌, ◌||◌, ℕ, ◌+◌, ◌-◌, ◌++◌, length, ◌<◌, ◌≤◌, true, List, [], Some, filter}
 use Rattle.std.specs.Cmp.Lexicographic.{slice_cmp}
 use Rattle.std.specs.List.{AllByRecursion}
 use Rattle.std.specs.List.Sorted.{IsStrictlySortedBy}
@@ -15,7 +15,7 @@ use Rattle.cat_types.specs.declared.changes.Op.{Op}
 use Rattle.cat_types.specs.declared.changes.Op.TheVariants.{DropDb}
 use Rattle.cat_values.specs.Names.{is_object_name}
 use Rattle.replicas.specs.Catalogues.{IsInOrder, is_sound, objects_of}
-use Rattle.replicas.specs.Histories.{AreChanges, AreLawful, IsNew, ValuesDiffer, source_of}
+use Rattle.replicas.specs.Histories.{AllDue, AreChanges, AreLawful, IsNew, ValuesDiffer, after_first, change_at, source_of}
 use Rattle.replicas.specs.Laws.{Passes}
 use Rattle.replicas.specs.Life.{AreNumbered, HasDb, Life, is_above, is_of, ops_of}
 use Rattle.replicas.specs.Objects.{Name, Has, Table}
@@ -52,6 +52,15 @@ ReplaysAreDone = (w : Name) (born e : ℕ) (op : Op) (s : Store) → Redoes w bo
 -- the changes of a history are a life of each database
 abbrev pub ChangesAreLives : Type 0
 ChangesAreLives = (w : Name) (cats : ℕ → Catalogue) (changes : ℕ → Change) (base newest : ℕ) → AreChanges cats changes base newest → Life (Passes is_sound) w (source_of w cats) changes base newest
+
+-- events each of which is due, from a new catalogue on, are a history by their numbers
+abbrev pub DueEventsAreChanges : Type 0
+DueEventsAreChanges = (base : ℕ) (cat : Catalogue) (events : List Event) → IsNew base cat → AllDue base cat events → AreChanges (λ k. after_first (k - base) cat events) (λ k. change_at (k - (base + 1)) events) base (base + length events)
+
+-- and each range of them is numbered
+abbrev pub DueEventsAreNumbered : Type 0
+DueEventsAreNumbered = (base : ℕ) (cat : Catalogue) (before range rest : List Event) → AllDue base cat (before ++ (range ++ rest))
+    → AreNumbered (λ k. change_at (k - (base + 1)) (before ++ (range ++ rest))) (base + length before) (base + length before + length range) range
 
 -- each operation of a history is lawful, and finds what it needs, in the catalogue with the operations before it
 abbrev pub HistoriesAreLawful : Type 0

@@ -14,7 +14,7 @@ pub use laws::{
 };
 pub use premises::premises_can_be_met;
 pub use store_laws::{
-    histories_are_lives, live_replicas_are_equal, operations_act_where_they_take_effect,
-    operations_are_done_on_catalogues, store_events_keep, stores_go_live, stores_replay,
-    stores_stay_live,
+    due_events_are_histories, histories_are_lives, live_replicas_are_equal,
+    operations_act_where_they_take_effect, operations_are_done_on_catalogues, store_events_keep,
+    stores_go_live, stores_replay, stores_stay_live,
 };

@@ -7,6 +7,8 @@ ghost use Rattle.replicas.specs.StoreLaws.{
   ChangesAreLives,
   DoneOnCatalogues,
   DropsNeverAct,
+  DueEventsAreChanges,
+  DueEventsAreNumbered,
   FittingActs,
   HistoriesAreLawful,
   HistoriesStayInOrder,
@@ -47,6 +49,13 @@ pub fn histories_are_lives()
     ensures new_stores { NewStoresAreNew }
     ensures calls { CallsAreApart }
     ensures rising { RisingIsInOrder }
+{}
+
+/// Events each of which is due on what those before it make are a history by their numbers, and each range
+/// of them is numbered.
+pub fn due_events_are_histories()
+    ensures changes { DueEventsAreChanges }
+    ensures ranges { DueEventsAreNumbered }
 {}
 
 /// What is replayed in a store is replayed on its replica: so the laws of marks hold of stores too.
