@@ -3,7 +3,7 @@ use Rattle.std.proofs.Common.{◌≡◌, ℕ, true, false, List, [], Option, Som
 use Rattle.std.specs.BTreeMap.{insert_entry}
 use Rattle.std.specs.Cmp.Lexicographic.{nat_list_cmp_total, slice_cmp}
 use Rattle.std.specs.Map.{set_value}
-use Rattle.std.specs.Option.{unwrap_or}
+use Rattle.std.specs.Option.{option_map, unwrap_or}
 use Rattle.std.specs.Ordering.{nat_cmp}
 use Rattle.cat_values.specs.declared.records.DbRec.{DbRec}
 use Rattle.cat_values.specs.declared.records.TableRec.{TableRec}
@@ -191,6 +191,11 @@ pub parts_same : (cat taken put : Catalogue) (db name : List ℕ) (parts new : P
 parts_same cat taken put db name parts new were out same back =
     parts_put cat taken put db name parts new (λ (p : PartList). p) were out same back
     ∙ parts_unchanged cat db name (λ (p : PartList). p) refl
+
+-- the partitions that a table had, and none where it isn't there
+pub taken_parts : (o : Option HeldTable) → unwrap_or (option_map (λ (held : HeldTable). held.parts) o) [] ≡ parts_of o
+taken_parts None = refl
+taken_parts (Some held) = refl
 
 -- partitions that were taken out of a table that is dropped, and given to another
 pub parts_moved : (cat emptied given dropped : Catalogue) (db name to : List ℕ) (parts : PartList) → parts ≡ parts_of (table cat db name) → emptied ≡ changed_tables db (changed_parts name (λ old. [])) cat → given ≡ changed_tables db (changed_parts to (λ old. parts)) emptied

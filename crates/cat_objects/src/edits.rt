@@ -12,6 +12,7 @@ ghost use Rattle.cat_objects.specs.Placing.{with_new};
 
 use crate::{Cat, HeldDb, HeldParts, HeldTable, HeldTables};
 use cat_types::{DbRec, NoMemory, Shared, TableRec, Text};
+use std::alloc::Global;
 use std::mem;
 
 impl Cat {
@@ -103,10 +104,7 @@ impl Cat {
         let mut held = self.take_database(db);
         let taken = held.tables.swap_parts(name, HeldParts::new(self.alloc));
         self.put_back(db, held);
-        match taken {
-            Some(parts) => parts,
-            None => HeldParts::new(self.alloc),
-        }
+        or_no_parts(self.alloc, taken)
     }
 
     // Gives a table these partitions in place of its own, where it is there. It takes no memory.
@@ -169,6 +167,16 @@ fn drop_table(tables: &mut HeldTables, name: &Text)
     ensures { tables.new ≡ without_table name.now tables.old }
 {
     let _ = tables.remove(name);
+}
+
+// Partitions, and none where there is nothing.
+fn or_no_parts(alloc: Global, taken: Option<HeldParts>) -> HeldParts
+    ensures { result ≡ unwrap_or taken [] }
+{
+    match taken {
+        Some(parts) => parts,
+        None => HeldParts::new(alloc),
+    }
 }
 
 // Gives a table these partitions in place of its own, where it is there.

@@ -197,9 +197,10 @@ impl Cat {
         ensures { Places result self.new (changed_tables db.now (put_table table.now born rec.now) self.old) self.old }
     {
         let (db, table, rec) = (db, table, rec).copy_parts(self.alloc)?;
-        let Some((old_born, before)) = self.swap_table_record(&db, &table, born, rec) else {
+        let Some(old) = self.swap_table_record(&db, &table, born, rec) else {
             unreachable!()
         };
+        let (old_born, before) = old;
         Ok(Placed::TableAltered {
             db,
             table,

@@ -16,7 +16,7 @@ use crate::tags::{
 use crate::version::Version;
 use crate::writing::{Put, put_tag, put_tagged};
 use cat_types::{
-    Bytes, Change, DbRec, Event, EventKind, NoMemory, Op, Ops, PartRec, TableRec, Text, Texts,
+    Bytes, Change, DbRec, Event, EventKind, NoMemory, Op, Ops, PartRec, Shared, TableRec, Text, Texts,
 };
 use std::alloc::Global;
 
@@ -54,7 +54,7 @@ fn get_put_db(alloc: Global, version: Version, bytes: &[u8]) -> Result<(Op, &[u8
 fn get_put_table(alloc: Global, version: Version, bytes: &[u8]) -> Result<(Op, &[u8]), Stop>
     ensures { Gives (λ x. (x.0, x.1.now)) result (made_read (λ p. Op.PutTable p.0 p.1 p.2) (put_table version).read bytes.now) }
 {
-    match <(Text, u64, TableRec)>::get(alloc, version, bytes) {
+    match <(Text, u64, Shared<TableRec>)>::get(alloc, version, bytes) {
         Ok(((table, born, rec), rest)) => Ok((Op::PutTable { table, born, rec }, rest)),
         Err(stop) => Err(stop),
     }
@@ -74,7 +74,7 @@ fn get_drop_table(alloc: Global, version: Version, bytes: &[u8]) -> Result<(Op, 
 fn get_move_table(alloc: Global, version: Version, bytes: &[u8]) -> Result<(Op, &[u8]), Stop>
     ensures { Gives (λ x. (x.0, x.1.now)) result (made_read (λ p. Op.MoveTable p.0 p.1 p.2 p.3) (move_table version).read bytes.now) }
 {
-    match <(Text, u64, Text, TableRec)>::get(alloc, version, bytes) {
+    match <(Text, u64, Text, Shared<TableRec>)>::get(alloc, version, bytes) {
         Ok(((table, born, to, rec), rest)) => Ok((
             Op::MoveTable {
                 table,
@@ -92,7 +92,7 @@ fn get_move_table(alloc: Global, version: Version, bytes: &[u8]) -> Result<(Op, 
 fn get_put_part(alloc: Global, version: Version, bytes: &[u8]) -> Result<(Op, &[u8]), Stop>
     ensures { Gives (λ x. (x.0, x.1.now)) result (made_read (λ p. Op.PutPart p.0 p.1 p.2 p.3) put_part.read bytes.now) }
 {
-    match <(Text, u64, Texts, PartRec)>::get(alloc, version, bytes) {
+    match <(Text, u64, Texts, Shared<PartRec>)>::get(alloc, version, bytes) {
         Ok(((table, born, values, rec), rest)) => Ok((
             Op::PutPart {
                 table,
@@ -127,7 +127,7 @@ fn get_drop_part(alloc: Global, version: Version, bytes: &[u8]) -> Result<(Op, &
 fn get_move_part(alloc: Global, version: Version, bytes: &[u8]) -> Result<(Op, &[u8]), Stop>
     ensures { Gives (λ x. (x.0, x.1.now)) result (made_read (λ p. Op.MovePart p.0.0 p.0.1 p.1.0 p.1.1 p.1.2) move_part.read bytes.now) }
 {
-    match <((Text, u64), (Texts, Texts, PartRec))>::get(alloc, version, bytes) {
+    match <((Text, u64), (Texts, Texts, Shared<PartRec>))>::get(alloc, version, bytes) {
         Ok((((table, born), (values, to, rec)), rest)) => Ok((
             Op::MovePart {
                 table,

@@ -10,7 +10,7 @@ use crate::reading::Get;
 use crate::tags::{DB_ITEM, PART_ITEM, TABLE_ITEM};
 use crate::version::Version;
 use crate::writing::{Put, put_tagged};
-use cat_types::{Bytes, DbRec, Item, NoMemory, PartRec, TableRec, Text, Texts};
+use cat_types::{Bytes, DbRec, Item, NoMemory, PartRec, Shared, TableRec, Text, Texts};
 use std::alloc::Global;
 
 #[tactic(auto, unfolding(crate::specs::Forms::tagged_read))]
@@ -42,7 +42,7 @@ fn get_db(alloc: Global, version: Version, bytes: &[u8]) -> Result<(Item, &[u8])
 fn get_table(alloc: Global, version: Version, bytes: &[u8]) -> Result<(Item, &[u8]), Stop>
     ensures { Gives (λ x. (x.0, x.1.now)) result (made_read (λ p. Item.Table p.0 p.1 p.2 p.3) (table_item version).read bytes.now) }
 {
-    match <(u64, Text, u64, TableRec)>::get(alloc, version, bytes) {
+    match <(u64, Text, u64, Shared<TableRec>)>::get(alloc, version, bytes) {
         Ok(((at, table, born, rec), rest)) => Ok((
             Item::Table {
                 at,
@@ -60,7 +60,7 @@ fn get_table(alloc: Global, version: Version, bytes: &[u8]) -> Result<(Item, &[u
 fn get_part(alloc: Global, version: Version, bytes: &[u8]) -> Result<(Item, &[u8]), Stop>
     ensures { Gives (λ x. (x.0, x.1.now)) result (made_read (λ p. Item.Part p.0.0 p.0.1 p.1.0 p.1.1 p.1.2) part_item.read bytes.now) }
 {
-    match <((u64, Text), (u64, Texts, PartRec))>::get(alloc, version, bytes) {
+    match <((u64, Text), (u64, Texts, Shared<PartRec>))>::get(alloc, version, bytes) {
         Ok((((at, table), (born, values, rec)), rest)) => Ok((
             Item::Part {
                 at,

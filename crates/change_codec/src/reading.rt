@@ -10,7 +10,7 @@ ghost use Rattle.change_codec.specs.declared.version.Version.{Version};
 use crate::fault::Stop;
 use crate::tags::{ABSENT, FALSE, PRESENT, TRUE};
 use crate::version::Version;
-use cat_types::{LIST_END, ListOf, MapOf, NoMemory, TEXT_LIMIT, Text};
+use cat_types::{LIST_END, ListOf, MapOf, NoMemory, Shared, TEXT_LIMIT, Text};
 use std::alloc::Global;
 
 /// A value that can be read off the front of bytes.
@@ -156,6 +156,20 @@ impl<T: Get> Get for Option<T> {
                 Err(stop) => Err(stop),
             },
             [_, ..] => Err(Stop::Left(bytes.len())),
+        }
+    }
+}
+
+impl<T: Get> Get for Shared<T> {
+    ghost read = { T.read };
+
+    fn get(alloc: Global, version: Version, bytes: &[u8]) -> Result<(Shared<T>, &[u8]), Stop> {
+        match T::get(alloc, version, bytes) {
+            Ok((value, rest)) => match Shared::new(alloc, value) {
+                Ok(shared) => Ok((shared, rest)),
+                Err(NoMemory) => Err(Stop::NoMemory),
+            },
+            Err(stop) => Err(stop),
         }
     }
 }

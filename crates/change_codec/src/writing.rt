@@ -12,7 +12,7 @@ ghost use Rattle.change_codec.specs.Forms.{flag_code, list_code, option_code};
 ghost use Rattle.cat_values.specs.Gathering.{Gathers};
 
 use crate::tags::{ABSENT, FALSE, PRESENT, TRUE};
-use cat_types::{Bytes, ListOf, MapOf, NoMemory, Text};
+use cat_types::{Bytes, ListOf, MapOf, NoMemory, Shared, Text};
 
 /// A value that has a spelling in bytes.
 pub trait Put {
@@ -141,6 +141,17 @@ impl<T: Put> Put for Option<T> {
                 value.put(out)
             }
         }
+    }
+}
+
+impl<T: Put> Put for Shared<T> {
+    ghost HasCode = { T.HasCode };
+
+    ghost code = { T.code };
+
+    fn put(&self, out: &mut Bytes) -> Result<(), NoMemory> {
+        let value: &T = self;
+        value.put(out)
     }
 }
 

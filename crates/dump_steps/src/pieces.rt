@@ -7,7 +7,7 @@ ghost use Rattle.dump_steps.specs.Pieces.{next_events, next_parts, next_table, p
 
 use crate::OpenDump;
 use cat_objects::{Cat, HeldParts, HeldTable};
-use cat_types::{Answer, CopyParts, Item, ListOf, NoMemory, PartRec, Text, Texts};
+use cat_types::{Answer, CopyParts, Item, ListOf, NoMemory, PartRec, Shared, Text, Texts};
 use notify_log::EventLog;
 use std::alloc::Global;
 use std::collections::btree_map::Range;
@@ -86,7 +86,7 @@ fn told_parts(
     newest: u64,
     table: &Text,
     born: u64,
-    entries: Range<'_, Texts, PartRec>,
+    entries: Range<'_, Texts, Shared<PartRec>>,
 ) -> Result<Answer, NoMemory>
     ensures { IfOk result (λ answer. answer ≡ told_parts (map (part_item newest table.now born) entries.entry)) }
 {
@@ -106,7 +106,7 @@ fn part_item(
     table: &Text,
     born: u64,
     values: &Texts,
-    rec: &PartRec,
+    rec: &Shared<PartRec>,
 ) -> Result<Item, NoMemory>
     ensures { IfOk result (λ item. item ≡ part_item newest table.now born (values.now, rec.now)) }
 {

@@ -5,7 +5,7 @@ ghost use Rattle.std.specs.List.{list_any};
 ghost use Rattle.cat_objects.specs.Parts.{are_values};
 ghost use Rattle.part_rules.specs.PartChanges.{ops_under, values_of};
 
-use cat_types::{CopyParts, ListOf, NoMemory, Op, Ops, PartRec, Text, Texts, TryCopy};
+use cat_types::{CopyParts, ListOf, NoMemory, Op, Ops, PartRec, Shared, Text, Texts, TryCopy};
 use std::alloc::Global;
 use std::collections::BTreeSet;
 use std::marker::Model;
@@ -14,7 +14,7 @@ use std::marker::Model;
 // Contracts see them as a list.
 #[derive(Drop)]
 pub(crate) struct NewParts {
-    parts: ListOf<(Texts, PartRec)>,
+    parts: ListOf<(Texts, Shared<PartRec>)>,
     taken: BTreeSet<Texts>,
 }
 
@@ -64,9 +64,10 @@ impl NewParts {
     ) -> Result<(), NoMemory>
         ensures { OnOk result (self.new ≡ self.old ++ (values, rec) ∷ []) }
     {
+        let shared = Shared::new(alloc, rec)?;
         let key = values.copy(alloc)?;
         self.taken.insert(key)?;
-        if self.parts.push((values, rec)).is_err() {
+        if self.parts.push((values, shared)).is_err() {
             *self = NewParts::new(alloc);
             return Err(NoMemory);
         }
@@ -74,7 +75,7 @@ impl NewParts {
     }
 
     // The partitions in their order.
-    pub(crate) fn as_slice(&self) -> &[(Texts, PartRec)]
+    pub(crate) fn as_slice(&self) -> &[(Texts, Shared<PartRec>)]
         ensures { result.now ≡ self.now }
     {
         self.parts.as_slice()
@@ -99,7 +100,7 @@ fn put_op(
     table: &Text,
     born: u64,
     values: Texts,
-    rec: PartRec,
+    rec: Shared<PartRec>,
 ) -> Result<Op, NoMemory>
     ensures { IfOk result (λ op. op ≡ Op.PutPart table.now born values rec) }
 {

@@ -12,8 +12,8 @@ ghost use Rattle.rulings.specs.Rules.{first_broken};
 
 use cat_objects::{Cat, HeldTable};
 use cat_types::{
-    Columns, CopyParts, ListOf, LowerName, NamedPart, NoMemory, PartRec, Parts, Reply, Text, Texts,
-    TryCopy,
+    Columns, CopyParts, ListOf, LowerName, NamedPart, NoMemory, PartRec, Parts, Reply, Shared, Text,
+    Texts, TryCopy,
 };
 use part_names::join_name;
 use rulings::{
@@ -53,7 +53,7 @@ fn get_meant(alloc: Global, cat: &Cat, db: &Text, name: &Text, meant: &Meant<'_>
 }
 
 // Tells one partition with its names.
-fn one_part(alloc: Global, db: &Text, name: &Text, values: &Texts, rec: &PartRec) -> Decided
+fn one_part(alloc: Global, db: &Text, name: &Text, values: &Texts, rec: &Shared<PartRec>) -> Decided
     ensures { Decides (accepted None (Parts (named_part db.now name.now values.now rec.now ∷ []))) result }
 {
     let mut parts = ListOf::new(alloc);

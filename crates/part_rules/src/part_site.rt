@@ -7,7 +7,7 @@ ghost use Rattle.kept_records.specs.Partitions.{altered_part};
 
 use crate::new_parts::NewParts;
 use cat_objects::HeldTable;
-use cat_types::{Change, CopyParts, EventKind, NoMemory, Op, PartRec, Text, TryCopy};
+use cat_types::{Change, CopyParts, EventKind, NoMemory, Op, PartRec, Shared, Text, TryCopy};
 use kept_records::altered_part;
 use rulings::{StoredValues, one_op};
 use std::alloc::Global;
@@ -70,7 +70,7 @@ impl<'a> Site<'a> {
     {
         let values = values.into_texts(alloc)?;
         let (db, table) = (self.db, self.name).copy_parts(alloc)?;
-        let rec = altered_part(alloc, old, rec, moment)?;
+        let rec = Shared::new(alloc, altered_part(alloc, old, rec, moment)?)?;
         let op = Op::PutPart {
             table,
             born: self.held.born,
@@ -95,7 +95,7 @@ impl<'a> Site<'a> {
         let values = values.into_texts(alloc)?;
         let to = to.into_texts(alloc)?;
         let (db, table) = (self.db, self.name).copy_parts(alloc)?;
-        let rec = altered_part(alloc, old, rec, moment)?;
+        let rec = Shared::new(alloc, altered_part(alloc, old, rec, moment)?)?;
         let op = Op::MovePart {
             table,
             born: self.held.born,

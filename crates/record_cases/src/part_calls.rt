@@ -4,7 +4,9 @@ use crate::outcome::words_of;
 use crate::table_calls::names_of;
 use crate::texts::texts_of;
 use crate::worded::text_of;
-use cat_types::{Call, ListOf, MapOf, NamedPart, PartArg, PartArgs, PartRec, Text, Texts};
+use cat_types::{
+    Call, ListOf, MapOf, NamedPart, PartArg, PartArgs, PartRec, Shared, Text, Texts,
+};
 use std::alloc::Global;
 use table_cases::Unable;
 
@@ -210,7 +212,7 @@ pub fn part_of(alloc: Global, words: &str) -> Result<NamedPart, Unable> {
         db,
         table,
         values,
-        rec: bare_part(alloc),
+        rec: Shared::new(alloc, bare_part(alloc))?,
     })
 }
 

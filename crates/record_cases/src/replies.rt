@@ -9,7 +9,7 @@ use crate::table_calls::names_of;
 use crate::texts::texts_of;
 use crate::worded::{Worded, owned_by, table_owned_by, text_of};
 use cat_types::{
-    Answer, Column, Columns, ListOf, MapOf, NamedTable, Params, Parts, Reply, Tables, Text,
+    Answer, Column, Columns, ListOf, MapOf, NamedTable, Params, Parts, Reply, Shared, Tables, Text,
 };
 use std::alloc::Global;
 use table_cases::Unable;
@@ -97,7 +97,7 @@ fn table_of(alloc: Global, words: &str) -> Result<NamedTable, Unable> {
     let (table, owner) = words_of(words);
     let db = Text::of(alloc, db)?;
     let table = Text::of(alloc, table)?;
-    let rec = table_owned_by(alloc, owner)?;
+    let rec = Shared::new(alloc, table_owned_by(alloc, owner)?)?;
     Ok(NamedTable { db, table, rec })
 }
 

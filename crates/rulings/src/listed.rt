@@ -3,7 +3,7 @@
 ghost use Rattle.std.specs.Prelude.{◌≡◌, ◌++◌, [], ◌∷◌, OnOk};
 ghost use Rattle.rulings.specs.Listed.{has_reached, named_part};
 
-use cat_types::{CopyParts, NamedPart, NoMemory, PartRec, Parts, Text, Texts};
+use cat_types::{CopyParts, NamedPart, NoMemory, PartRec, Parts, Shared, Text, Texts};
 use std::alloc::Global;
 
 /// Adds a copy of a partition with its names at the end. Nothing is said of the list after
@@ -14,7 +14,7 @@ pub fn push_part(
     db: &Text,
     name: &Text,
     values: &Texts,
-    rec: &PartRec,
+    rec: &Shared<PartRec>,
 ) -> Result<(), NoMemory>
     ensures { OnOk result (parts.new ≡ parts.old ++ named_part db.now name.now values.now rec.now ∷ []) }
 {

@@ -7,7 +7,9 @@ ghost use Rattle.stat_rules.specs.Records.{part_with, table_with};
 use crate::kept::{part_with, table_with};
 use cat_objects::HeldTable;
 use cat_rules::{columns_rule, object_name};
-use cat_types::{Change, CopyParts, EventKind, NoMemory, Op, PartRec, Stats, Text, Texts, TryCopy};
+use cat_types::{
+    Change, CopyParts, EventKind, NoMemory, Op, PartRec, Shared, Stats, Text, Texts, TryCopy,
+};
 use rulings::one_op;
 use std::alloc::Global;
 
@@ -36,7 +38,7 @@ impl<'a> Site<'a> {
         ensures { IfOk result (λ made. made ≡ record { kind = EventKind.AlterTable; db = self.now.db.now; db_born = self.now.db_born; ops = Op.PutTable self.now.name.now self.now.held.now.born (table_with stats self.now.held.now.rec) ∷ [] }) }
     {
         let (db, table) = (self.db, self.name).copy_parts(alloc)?;
-        let rec = table_with(alloc, &self.held.rec, stats)?;
+        let rec = Shared::new(alloc, table_with(alloc, &self.held.rec, stats)?)?;
         let op = Op::PutTable {
             table,
             born: self.held.born,
@@ -56,7 +58,7 @@ impl<'a> Site<'a> {
         ensures { IfOk result (λ made. made ≡ record { kind = EventKind.AlterPartition; db = self.now.db.now; db_born = self.now.db_born; ops = Op.PutPart self.now.name.now self.now.held.now.born values.now (part_with stats rec.now) ∷ [] }) }
     {
         let (db, table, values) = (self.db, self.name, values).copy_parts(alloc)?;
-        let rec = part_with(alloc, rec, stats)?;
+        let rec = Shared::new(alloc, part_with(alloc, rec, stats)?)?;
         let op = Op::PutPart {
             table,
             born: self.held.born,

@@ -3,7 +3,7 @@
 use crate::again::{Reader, gathered};
 use crate::faults::told_fault;
 use crate::requests::text_or_none;
-use cat_types::{Call, CopyParts, NamedPart, PartArg, PartArgs, Parts, Text};
+use cat_types::{Call, CopyParts, NamedPart, PartArg, PartArgs, Parts, Shared, Text};
 use ms_structs::StructFault;
 use std::alloc::Global;
 use table_cases::Unable;
@@ -57,7 +57,7 @@ fn named(alloc: Global, part: &PartArg) -> Result<NamedPart, Unable> {
         db: db.unwrap_or(Text::of(alloc, "")?),
         table: table.unwrap_or(Text::of(alloc, "")?),
         values,
-        rec,
+        rec: Shared::new(alloc, rec)?,
     })
 }
 

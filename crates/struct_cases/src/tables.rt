@@ -2,7 +2,7 @@
 
 use crate::again::{Reader, gathered};
 use crate::faults::told_fault;
-use cat_types::{NamedTable, TableArg, Text};
+use cat_types::{NamedTable, Shared, TableArg, Text};
 use std::alloc::Global;
 use std::fmt::Write;
 use table_cases::Unable;
@@ -35,7 +35,7 @@ pub fn rewritten_table(
     match read_table(alloc, reader) {
         Ok(table) => {
             let said = said_of(&table);
-            told(alloc, said, &named(table, names), form)
+            told(alloc, said, &named(alloc, table, names)?, form)
         }
         Err(fault) => told_fault(alloc, fault),
     }
@@ -50,12 +50,13 @@ fn said_of(table: &TableArg) -> Said {
 }
 
 // A table under its names, or under these where it has none.
-fn named(table: TableArg, names: (Text, Text)) -> NamedTable {
-    NamedTable {
+fn named(alloc: Global, table: TableArg, names: (Text, Text)) -> Result<NamedTable, Unable> {
+    let rec = Shared::new(alloc, table.rec)?;
+    Ok(NamedTable {
         db: table.db.unwrap_or(names.0),
         table: table.table.unwrap_or(names.1),
-        rec: table.rec,
-    }
+        rec,
+    })
 }
 
 // What wasn't said, and what is written.

@@ -14,11 +14,11 @@ use crate::showing::{kept_record, shown_record};
 use cat_objects::{Cat, HeldDb};
 use cat_rules::{matches, object_name};
 use cat_types::{
-    Change, DbArg, DbRec, EventKind, ListOf, LowerName, MapOf, NoMemory, Op, Reply, Text, Texts,
-    TryCopy,
+    Change, DbArg, DbRec, EventKind, ListOf, LowerName, NoMemory, Op, Reply, Text, Texts, TryCopy,
 };
 use rulings::{Bars, Decided, Refusal, ReplicaAts, changed, one_op, refused};
 use std::alloc::Global;
+use std::collections::btree_map::Iter;
 
 /// How many databases a store has at most.
 pub const DATABASE_LIMIT: u64 = 1_000_000;
@@ -40,22 +40,22 @@ pub fn get_all_databases(alloc: Global, cat: &Cat) -> Decided
 pub fn get_databases(alloc: Global, cat: &Cat, pattern: &Text) -> Decided
     ensures { Decides (decided_by None None (Names (matching pattern.now (keys_of cat.now.databases)))) result }
 {
-    match matching_names(alloc, pattern, cat.databases()) {
+    match matching_names(alloc, pattern, cat.databases().iter()) {
         Ok(names) => Decided::Reply(Reply::Names(names)),
         Err(NoMemory) => Decided::NoMemory,
     }
 }
 
-// The names in a map that a pattern asks for. No other name is copied.
+// The names among entries that a pattern asks for. No other name is copied.
 pub(crate) fn matching_names<V>(
     alloc: Global,
     pattern: &Text,
-    entries: &MapOf<Text, V>,
+    entries: Iter<'_, Text, V>,
 ) -> Result<Texts, NoMemory>
-    ensures { IfOk result (λ names. names ≡ matching pattern.now (keys_of entries.now)) }
+    ensures { IfOk result (λ names. names ≡ matching pattern.now (keys_of entries)) }
 {
     let mut found = ListOf::new(alloc);
-    for (name, _) in entries.iter() {
+    for (name, _) in entries {
         if matches(pattern, name) {
             found.push(name.copy(alloc)?)?;
         }

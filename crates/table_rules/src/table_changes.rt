@@ -16,7 +16,7 @@ use crate::databases::names_another;
 use cat_objects::{Cat, HeldDb, HeldTable};
 use cat_rules::{columns_rule, object_name};
 use cat_types::{
-    Change, CopyParts, EventKind, LowerName, NoMemory, Op, Reply, TableArg, TableRec, Text,
+    Change, CopyParts, EventKind, LowerName, NoMemory, Op, Reply, Shared, TableArg, TableRec, Text,
 };
 use kept_records::{altered_table, have_same_keys, made_table};
 use rulings::{Bars, Decided, Refusal, changed, one_op, refused};
@@ -210,6 +210,7 @@ fn table_put(
 ) -> Result<Change, NoMemory>
     ensures { IfOk result (λ made. made ≡ record { kind = EventKind.CreateTable; db = db.now; db_born = db_born; ops = Op.PutTable table.now born rec ∷ [] }) }
 {
+    let rec = Shared::new(alloc, rec)?;
     match (db, table).copy_parts(alloc) {
         Ok((db, table)) => {
             let op = Op::PutTable { table, born, rec };
@@ -339,6 +340,7 @@ impl<'a> Altering<'a> {
     fn put(&self, alloc: Global, rec: TableRec) -> Result<Change, NoMemory>
         ensures { IfOk result (λ made. made ≡ record { kind = EventKind.AlterTable; db = self.now.db.now; db_born = self.now.held.now.born; ops = (if not (bytes_eq self.now.to.now self.now.name.now) then Op.MoveTable self.now.name.now self.now.old.now.born self.now.to.now rec ∷ [] else Op.PutTable self.now.name.now self.now.old.now.born rec ∷ []) }) }
     {
+        let rec = Shared::new(alloc, rec)?;
         match (self.db, self.name, self.to).copy_parts(alloc) {
             Ok((db, table, to)) => {
                 let born = self.old.born;

@@ -13,8 +13,8 @@ ghost use Rattle.table_rules.specs.Tables.{columns_as, first_asked, get_columns_
 use crate::databases::matching_names;
 use cat_objects::Cat;
 use cat_types::{
-    Columns, CopyParts, ListOf, LowerName, NamedTable, NoMemory, Reply, TableRec, Tables, Text,
-    Texts, TryCopy,
+    Columns, CopyParts, ListOf, LowerName, NamedTable, NoMemory, Reply, Shared, TableRec, Tables,
+    Text, Texts, TryCopy,
 };
 use rulings::{Decided, Refusal, find_table, refused};
 use std::alloc::Global;
@@ -30,7 +30,7 @@ pub fn get_tables(alloc: Global, cat: &Cat, db: &Text, pattern: &Text) -> Decide
     let Some(held) = cat.held_database(db.as_text()) else {
         return Decided::Reply(Reply::Names(ListOf::new(alloc)));
     };
-    match matching_names(alloc, pattern, &held.tables) {
+    match matching_names(alloc, pattern, held.tables.iter()) {
         Ok(names) => Decided::Reply(Reply::Names(names)),
         Err(NoMemory) => Decided::NoMemory,
     }
@@ -69,7 +69,7 @@ pub fn get_table(alloc: Global, cat: &Cat, db: &Text, name: &Text) -> Decided
 }
 
 // The list of one table with its names.
-fn one_table(alloc: Global, db: &Text, name: &Text, rec: &TableRec) -> Result<Tables, NoMemory>
+fn one_table(alloc: Global, db: &Text, name: &Text, rec: &Shared<TableRec>) -> Result<Tables, NoMemory>
     ensures { IfOk result (λ made. made ≡ named_table db.now name.now rec.now ∷ []) }
 {
     let mut tables = ListOf::new(alloc);
@@ -83,7 +83,7 @@ fn push_table(
     tables: &mut Tables,
     db: &Text,
     name: &Text,
-    rec: &TableRec,
+    rec: &Shared<TableRec>,
 ) -> Result<(), NoMemory>
     ensures { OnOk result (tables.new ≡ tables.old ++ named_table db.now name.now rec.now ∷ []) }
 {

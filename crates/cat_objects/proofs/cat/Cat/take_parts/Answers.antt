@@ -1,11 +1,18 @@
-use Rattle.std.proofs.Common.{[], ap, ◌∙◌}
+use Rattle.std.proofs.Common.{[], Option, ap, ◌∙◌}
+use Rattle.std.specs.Option.{option_map, unwrap_or}
+use Rattle.cat_objects.specs.Catalogue.{table}
 use Rattle.cat_objects.specs.Changes.{changed_parts}
 use Rattle.cat_objects.specs.Parts.{PartList}
-use Rattle.cat_objects.proofs.Editing.{tables_put}
+use Rattle.cat_objects.specs.declared.held.HeldTable.{HeldTable}
+use Rattle.cat_objects.proofs.Editing.{table_found, taken_parts, tables_put}
 use Rattle.cat_objects.proofs.cat.Cat.take_parts.Goals as goal
 
 pub returns-clause-value : goal.returns-clause-value
-returns-clause-value c = ?
+returns-clause-value c =
+    c.or_no_parts.ensures
+    ∙ ap (λ (o : Option PartList). unwrap_or o []) c.swap_parts-taken.ensures.value
+    ∙ ap (λ (o : Option HeldTable). unwrap_or (option_map (λ (held : HeldTable). held.parts) o) []) (table_found c.args.self.now c.args.db.now c.args.name.now c.take_database-held.result c.take_database-held.ensures.held)
+    ∙ taken_parts (table c.args.self.now c.args.db.now c.args.name.now)
 
 pub returns-clause-left : goal.returns-clause-left
 returns-clause-left c =

@@ -4,5 +4,5 @@ use Rattle.part_rules.proofs.new_parts.NewParts.push.Goals as goal
 
 pub invariant_of-self-else-is_err : goal.invariant_of-self-else-is_err
 invariant_of-self-else-is_err c =
-    let pushed : c.push.new.self ≡ c.self.inside.parts ++ (c.args.values, c.args.rec) ∷ [] = search rules in
-    same_snoc c.self.inside.taken.keys c.insert.new.self.keys c.self.inside.parts c.push.new.self c.in_ok-key.key c.args.values c.args.rec c.self.invariant c.in_ok-insert.ensures.updates.0 c.in_ok-key.ensures pushed
+    let pushed : c.push.new.self ≡ c.self.inside.parts ++ (c.args.values, c.in_ok-shared.shared) ∷ [] = search rules in
+    same_snoc c.self.inside.taken.keys c.insert.new.self.keys c.self.inside.parts c.push.new.self c.in_ok-key.key c.args.values c.in_ok-shared.shared c.self.invariant c.in_ok-insert.ensures.updates.0 c.in_ok-key.ensures pushed
