@@ -1,5 +1,5 @@
 -- Databases and tables that are changed in place.
-use Rattle.std.proofs.Common.{◌≡◌, ℕ, true, false, List, [], Option, Some, None, MatchOption, is_some, if◌then◌else◌, refl, sym, ap, subst, ◌∙◌}
+use Rattle.std.proofs.Common.{◌≡◌, ℕ, true, false, List, [], Option, Some, None, is_some, if◌then◌else◌, refl, sym, ap, subst, ◌∙◌}
 use Rattle.std.specs.BTreeMap.{insert_entry}
 use Rattle.std.specs.Cmp.Lexicographic.{nat_list_cmp_total, slice_cmp}
 use Rattle.std.specs.Map.{set_value}
@@ -8,11 +8,11 @@ use Rattle.std.specs.Ordering.{nat_cmp}
 use Rattle.cat_values.specs.declared.records.DbRec.{DbRec}
 use Rattle.cat_values.specs.declared.records.TableRec.{TableRec}
 use Rattle.cat_objects.specs.Catalogue.{Catalogue, at_name, database, empty_database, has_table, is_name, parts_of, table, tables_of}
-use Rattle.cat_objects.specs.Changes.{changed_in, changed_parts, changed_tables, changed_value, put_table, settled_move, with_old_record, with_old_table, with_parts, with_table_record, with_tables, without_table}
+use Rattle.cat_objects.specs.Changes.{changed_in, changed_parts, changed_tables, put_table, settled_move, with_old_record, with_old_table, with_parts, with_table_record, with_tables, without_table}
 use Rattle.cat_objects.specs.Parts.{PartList}
 use Rattle.cat_objects.specs.declared.held.HeldDb.{HeldDb}
 use Rattle.cat_objects.specs.declared.held.HeldTable.{HeldTable}
-use Rattle.cat_objects.proofs.Maps.{changed_absent, changed_as, changed_not, changed_twice, removed_changed, set_absent, set_back, set_changed, set_found, set_same, set_twice, taken_out}
+use Rattle.cat_objects.proofs.Maps.{changed_as, changed_not, changed_twice, removed_changed, set_absent, set_back, set_changed, set_found, set_same, set_twice, taken_out}
 
 abbrev pub Tables : Type 0
 Tables = List (List ℕ × HeldTable)
