@@ -1,5 +1,5 @@
 -- How a dump that was begun ends.
-use Rattle.std.proofs.Common.{◌≡◌, ◌≢◌, ◌⊎◌, ℕ, ◌<◌, ◌^◌, List, [], ◌∷◌, ◌++◌, length, map, codes, Option, Some, None, Result, Ok, Err, refl, sym, ◌∙◌, ap, subst, inl, inr, append_assoc, arith}
+use Rattle.std.proofs.Common.{◌≡◌, ◌≢◌, ◌⊎◌, ℕ, ◌<◌, ◌^◌, Bool, List, [], ◌∷◌, ◌++◌, length, map, codes, Option, Some, None, Result, Ok, Err, refl, sym, ◌∙◌, ap, subst, inl, inr, append_assoc, arith}
 use Rattle.std.proofs.lemmas.List.{append-nil, append_cancel_left, map-append}
 use Rattle.cat_types.specs.declared.items.Item.{Item}
 use Rattle.cat_types.specs.declared.steps.Answer.{Answer}
@@ -13,6 +13,7 @@ use Rattle.dump_texts.specs.Texts.{at_path, dump_dir, dump_text, end_told, event
 use Rattle.dump_texts.specs.declared.kinds.FileKind.{FileKind}
 use Rattle.dump_texts.specs.declared.kinds.FileKind.TheVariants.{EventFile, ItemFile}
 use Rattle.dump_texts.proofs.Told.{event_texts_both, item_texts_both}
+use Rattle.std.specs.Prelude.{is_some}
 use Rattle.std.specs.BTreeMap.{insert_entry}
 use Rattle.std.specs.Cmp.Lexicographic.{slice_cmp}
 use Rattle.std.specs.Ordering.{nat_cmp}
@@ -262,9 +263,17 @@ manifest_stays {T} result outage failed dir path bytes before after p own cause 
     same (Some f) (Some g) h = λ name apart. ap (λ (files : Files). file files name) h
     apart : outages.NoMemory ≡ outages.Failed → ⊥
     apart q = absurd cc
-    by : (f : Failure) → IsOwn f → (f ≡ failure.FolderFault → outage ≡ outages.Failed) → (f ≡ failure.NoMemory → outage ≡ outages.NoMemory) → (o : Outage) → Puts {T} before after path bytes (Err o) → o ≡ outage → Leads (StaysBy f dir) before after
+    by : (f : Failure) → IsOwn f → (f ≡ failure.FolderFault → outage ≡ outages.Failed) → (f ≡ failure.NoMemory → outage ≡ outages.NoMemory) → (o : Outage) → Puts {T = T} before after path bytes (Err o) → o ≡ outage → Leads (StaysBy f dir) before after
     by (failure.Refused refusal) mine c m o h q = absurd mine
     by failure.FolderFault mine c m outages.Failed h q = torn before after h
     by failure.FolderFault mine c m outages.NoMemory h q = absurd (apart (q ∙ c refl))
     by failure.NoMemory mine c m outages.Failed h q = absurd (apart (sym (q ∙ m refl)))
     by failure.NoMemory mine c m outages.NoMemory h q = same before after h
+
+-- the manifest as it is put is that of what was written
+pub code_is : (db made : List ℕ) (whole : Bool) (beginning : Beginning) (writer : Writer) → made ≡ db → whole ≡ is_some beginning.first → manifest_code (record {
+    source = beginning.source; db = made; dump = beginning.dump; bootstrap = whole; begin = beginning.begin; end = writer.end; born = beginning.born; files = writer.files;
+  }) ≡ manifest_code (manifest_of db beginning writer)
+code_is db made whole beginning writer name kind =
+    ap (λ (d : List ℕ). manifest_code (record { source = beginning.source; db = d; dump = beginning.dump; bootstrap = whole; begin = beginning.begin; end = writer.end; born = beginning.born; files = writer.files })) name
+    ∙ ap (λ (b : Bool). manifest_code (record { source = beginning.source; db = db; dump = beginning.dump; bootstrap = b; begin = beginning.begin; end = writer.end; born = beginning.born; files = writer.files })) kind

@@ -14,7 +14,7 @@ use crate::arriving::go_on;
 use crate::asking::step_of;
 use crate::failure::Failure;
 use crate::place::Place;
-use crate::writer::{Writer, counts_fit};
+use crate::writer::{Writer, counts_fit, lines_fit};
 use desk::Desk;
 use hms_outside::Folder;
 use std::alloc::Global;
@@ -81,5 +81,7 @@ fn take_step<K: Desk, F: Folder>(
     };
     let answer = desk.step(step);
     counts_fit(writer.items, writer.events);
-    go_on(alloc, folder, writer, begin, place, answer)
+    let next = go_on(alloc, folder, writer, begin, place, answer);
+    lines_fit(&writer.files);
+    next
 }

@@ -1,6 +1,7 @@
 //! What writes the files of a dump.
 
-ghost use Rattle.std.specs.Prelude.{◌≡◌, ◌≤◌, ◌<◌, ◌^◌, ◌∷◌, [], ◌++◌, ◌+◌, IfOk, IsErrOf, OnErr, OnOk};
+ghost use Rattle.std.specs.Prelude.{◌≡◌, ◌≤◌, ◌<◌, ◌^◌, ◌∷◌, [], ◌++◌, ◌+◌, IfOk, IsErrOf, OnErr, OnOk, length};
+ghost use Rattle.cat_values.specs.declared.list_of.TheConstants.{LIST_END};
 ghost use Rattle.dump_manifest.specs.Manifests.{dir_text};
 ghost use Rattle.dump_texts.specs.Texts.{line_of, name_at, path_in};
 ghost use Rattle.hms_outside.specs.Causes.{Rose};
@@ -126,3 +127,10 @@ pub fn counts_fit(items: u64, events: u64)
     ensures items { items < 2 ^ 64 }
     ensures events { events < 2 ^ 64 }
 {}
+
+/// A manifest has fewer lines than a list may have, which the proof that a walk ends rests on.
+pub fn lines_fit(files: &Files)
+    ensures { length files.now ≤ LIST_END }
+{
+    let _lines = files.as_slice();
+}
