@@ -14,3 +14,4 @@ pub mod Taking
 pub mod Ending
 pub mod NotOpen
 pub mod Joining
+pub mod Closing

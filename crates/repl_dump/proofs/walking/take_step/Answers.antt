@@ -8,8 +8,8 @@ use Rattle.repl_dump.proofs.walking.take_step.Goals as goal
 pub returns-in_default-clause-steps : goal.returns-in_default-clause-steps
 returns-in_default-clause-steps g c = adds_none _ _ _ _ (stopped_here c.args.number c.args.begin (place_of c.args.place) NoMemory (unfinished c.args.place) tt)
 
-pub go_on-requires : goal.go_on-requires
-go_on-requires g c =
+pub go_on-next-requires : goal.go_on-next-requires
+go_on-next-requires g c =
     fits_turn (g.K.Desk.caller c.args.desk.now) c.args.number c.args.place (g.K.Desk.start c.args.desk.now) (g.K.Desk.history c.args.desk.now) (g.K.Desk.history c.step-answer.new.self) c.in-Ok.step c.step-answer.result (g.K.Desk.faults c.step-answer.new.self)
     (turn_of (g.K.Desk.caller c.args.desk.now) c.args.number c.args.place (g.K.Desk.start c.args.desk.now) (g.K.Desk.start c.step-answer.new.self) (g.K.Desk.history c.args.desk.now) (g.K.Desk.history c.step-answer.new.self) c.in-Ok.step c.step-answer.result (g.K.Desk.faults c.step-answer.new.self)
       c.step-answer.ensures.start c.step-answer.ensures.turns c.step-answer.ensures.legal c.requires.before_end c.in-Ok.ensures c.requires.open)
