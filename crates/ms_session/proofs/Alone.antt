@@ -41,7 +41,7 @@ use Rattle.rulings.specs.Changes.{part_change, table_born}
 use Rattle.rulings.specs.Meant.{by_name, by_values, meant_values}
 use Rattle.catalogue.specs.Rules.{breaks, first_refusal, lacks_number, refusal, result_of, rules_of}
 use Rattle.stat_rules.specs.Records.{StatMap}
-use Rattle.stat_rules.specs.Statistics.{part_deleted, part_given, part_updated, said_db, said_part, said_table, said_text, said_at, table_deleted, table_given, table_updated, part_changed, table_changed, unless_empty}
+use Rattle.stat_rules.specs.Statistics.{part_deleted, part_given, part_updated, said_db, said_table, table_deleted, table_given, table_updated, unless_empty}
 use Rattle.table_rules.specs.Tables.{renames, table_altered, table_created, table_dropped, table_put}
 use Rattle.rulings.specs.declared.bars.Bars.{Bars}
 use Rattle.cat_objects.specs.declared.held.HeldDb.{HeldDb}

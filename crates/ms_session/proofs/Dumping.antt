@@ -1,5 +1,5 @@
 -- What a dump and a trim do at a desk, and what they are answered.
-use Rattle.std.proofs.Common.{◌≡◌, ◌≤◌, ◌⊎◌, ℕ, ℤ, Bool, List, [], ◌∷◌, ◌++◌, map, Option, Some, None, IsTrue, Result, Ok, Err, IfOk, refl, sym, ap, ◌∙◌, subst, inl, inr}
+use Rattle.std.proofs.Common.{◌≡◌, ◌≤◌, ℕ, ℤ, Bool, List, [], ◌∷◌, ◌++◌, Option, Some, None, IsTrue, Result, Ok, Err, IfOk, refl, sym, ap, ◌∙◌, subst, inl, inr}
 use Rattle.std.specs.List.{AllByRecursion}
 use Rattle.std.specs.Prelude.{⊤}
 use Rattle.hms_outside.specs.Causes.{Rose}
@@ -14,9 +14,9 @@ use Rattle.cat_types.specs.declared.steps.Step.{Step}
 use Rattle.cat_types.specs.declared.steps.Step.TheVariants.{Client, DumpBegin, DumpEnd, DumpEvents, DumpParts, DumpSeal, DumpTable, Trim}
 use Rattle.desk.specs.Adds.{Adds}
 use Rattle.desk.specs.Entries.{Others}
-use Rattle.desk.specs.History.{Entry, Legal, MayFollow, Start, point_of}
+use Rattle.desk.specs.History.{Entry, Legal, Start, point_of}
 use Rattle.desk.specs.State.{MayAnswer, State}
-use Rattle.desk.specs.Walks.{BrokenOff, DumpRun, Fails, Goes, MayFail, Place, Unbegun, Walked, Wanted, begin_step, broken, done, end, events, parts, place_begun, seal, step_at, tables, unbegun, whole}
+use Rattle.desk.specs.Walks.{DumpRun, Goes, MayFail, Place, Walked, Wanted, begin_step, broken, done, end, events, parts, place_begun, seal, step_at, tables, unbegun, whole}
 use Rattle.desk.proofs.Additions.{adds_one, adds_weaker}
 use Rattle.ms_calls.specs.Replies.{CanReply}
 use Rattle.ms_calls.specs.Refusals.{out_of_memory, store_fault}
@@ -27,7 +27,7 @@ use Rattle.repl_dump.specs.Dumps.{Dumps}
 use Rattle.repl_dump.specs.declared.dumping.DumpAnswer.{DumpAnswer}
 use Rattle.repl_dump.specs.declared.dumping.DumpAnswer.TheVariants as dumped
 use Rattle.ms_session.specs.DumpReplies.{AnswersTrim, IsTrimReply, dump_reply, told_refusal}
-use Rattle.ms_session.specs.Turns.{Did, DumpedSo, DumpedTo, Files, Shelf, Timed, moments_in, moments_of, shelf_of}
+use Rattle.ms_session.specs.Turns.{Did, Files, Shelf, Timed, moments_in, moments_of, shelf_of}
 use Rattle.ms_session.proofs.Results.{last_may}
 
 -- ---- steps that are no calls

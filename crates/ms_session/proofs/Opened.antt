@@ -1,6 +1,6 @@
 -- A session's dumps are open while it takes steps on them.
-use Rattle.std.proofs.Common.{◌≡◌, ◌≢◌, ℕ, ℤ, Bool, true, false, List, [], ◌∷◌, ◌++◌, map, Option, Some, None, refl, sym, ap, ◌∙◌, subst, inl, inr}
-use Rattle.std.specs.Prelude.{⊤, ◌⊎◌, ◌==◌, cond}
+use Rattle.std.proofs.Common.{◌≡◌, ◌≢◌, ℕ, Bool, true, false, List, [], ◌∷◌, ◌++◌, Option, Some, None, refl, sym, ap, ◌∙◌, subst, inl, inr}
+use Rattle.std.specs.Prelude.{◌⊎◌, cond}
 use Rattle.std.specs.List.{AllByRecursion, flat_map}
 use Rattle.cat_types.specs.declared.items.Item.{Item}
 use Rattle.cat_types.specs.declared.replies.Reply.{Reply}
@@ -8,7 +8,7 @@ use Rattle.cat_types.specs.declared.steps.Answer.{Answer}
 use Rattle.cat_types.specs.declared.steps.Answer.TheVariants as answer
 use Rattle.cat_types.specs.declared.steps.DumpRefusal.{DumpRefusal}
 use Rattle.cat_types.specs.declared.steps.Step.{Step}
-use Rattle.cat_types.specs.declared.steps.Step.TheVariants.{Client, DumpBegin, DumpEnd, DumpEvents, DumpParts, DumpSeal, DumpTable, Trim}
+use Rattle.cat_types.specs.declared.steps.Step.TheVariants.{Client, DumpEnd, DumpEvents, DumpParts, DumpSeal, DumpTable, Trim}
 use Rattle.desk.specs.History.{Entry}
 use Rattle.desk.specs.Walks.{Began, DumpRun, Fails, Goes, MayFail, Moves, Place, Unbegun, Walked, Wanted, began_answer, begin_step, broken, done, end, events, parts, place_begun, seal, step_at, tables, unbegun, whole}
 use Rattle.ms_calls.specs.declared.request.Asked.{Asked}
@@ -19,9 +19,7 @@ use Rattle.repl_dump.specs.declared.dumping.DumpAnswer.TheVariants as dumped
 use Rattle.ms_session.specs.DumpLaws.{AreOpened, DumpsAreOpen, IsNoDump, IsThere, OnlyDumpsChangeFiles, StepsAreOpened, begun_by, needs, opened_after, opened_by}
 use Rattle.ms_session.specs.DumpReplies.{IsTrimReply}
 use Rattle.ms_session.specs.Requests.{asks}
-use Rattle.ms_session.specs.Session.{Met, Session}
 use Rattle.ms_session.specs.Turns.{Carried, Due, Files, IsReplyTo, IsTurn, Shelf, Turn}
-use Rattle.ms_session.specs.declared.end.End.{End}
 use Rattle.ms_session.specs.declared.end.End.TheVariants as ended
 use Rattle.ms_session.proofs.Dumping.{same_step}
 

@@ -1,5 +1,5 @@
 -- What follows from the session relation for dumps.
-use Rattle.std.specs.Prelude.{◌≡◌, ◌≢◌, ◌≤◌, ◌==◌, ◌&&◌, ⊤, ℕ, ◌+◌, ◌-◌, ◌^◌, min, Bool, true, false, List, [], ◌∷◌, ◌++◌, length, codes, Option, None, Some}
+use Rattle.std.specs.Prelude.{◌≡◌, ◌≢◌, ◌≤◌, ◌==◌, ◌&&◌, ⊤, ℕ, ◌+◌, ◌-◌, ◌^◌, min, Bool, true, false, List, [], ◌∷◌, length, codes, Option, None, Some}
 use Rattle.std.specs.List.{AllByRecursion, filter}
 use Rattle.std.specs.Str.{bytes_eq}
 use Rattle.cat_types.specs.declared.replies.Reply.{Reply}
