@@ -162,7 +162,7 @@ in_run wanted entries (broken began b) none =
     let ending : Keeps (Some began.dump) None (b.ending ∷ []) = keeps_one (Some began.dump) None b.ending (DumpEnd began.dump) answer.Ended b.ends.0 b.ends.1 refl (λ no. absurd cc) refl in
     subst (Keeps None None) (sym b.is)
     (keeps_both None (Some began.dump) None b.walked (b.failed ++ b.ending ∷ []) walked
-      (keeps_both (Some began.dump) (Some began.dump) None b.failed (b.ending ∷ []) (at_failure began.dump b.place b.failed b.fails) ending))
+    (keeps_both (Some began.dump) (Some began.dump) None b.failed (b.ending ∷ []) (at_failure began.dump b.place b.failed b.fails) ending))
 
 in_dump : (wanted : Wanted) (given : DumpAnswer) (old new : Option Files) (entries : List Entry) → Dumps wanted given old new entries → Keeps None None entries
 in_dump wanted (dumped.Done dir last) old new entries d = in_walk wanted d.began entries done d.walk
