@@ -15,7 +15,9 @@ use Rattle.ms_cli.specs.Local.{Made, Serves}
 use Rattle.ms_cli.specs.Opened.{Closed, Opened, Outside, Worked, fault_of}
 use Rattle.ms_cli.specs.Telling.{Tells, Writes, made_line, status_of}
 use Rattle.ms_cli.proofs.Keeps.{goes_on_from}
+use Rattle.ms_cli.specs.Trimming.{Trims}
 use Rattle.ms_journal.specs.Found.{AsFound, LeavesAsFound}
+use Rattle.ms_session.specs.declared.end.End.{End}
 
 -- the store was opened, which left these disks, and then worked at
 pub opened : (Does : List Entry → Type 0) (old new : Outside) (mid_a mid_b : Disk) (s : Start) → IfSome old.disk_a.lies (λ d. Opens d.held s.state) → s.fault ≡ fault_number mid_a.faults mid_b.faults → old.disk_a.faults ≤ mid_a.faults → mid_b ≡ old.disk_b → s.past ≡ mid_a.past
@@ -34,6 +36,10 @@ pub worked : (Does : List Entry → Type 0) (start begun : Start) (a b : Disk) (
 worked Does start begun a b before after final mine starts none adds ends closed does =
     let all : mine ≡ final = sym (ends ∙ (adds ∙ ap (λ (l : List Entry). l ++ mine) none)) in
     subst (λ (s : Start). Worked Does s a b) starts (record { entries = final; closed = closed; does = subst Does all does })
+
+-- a trim up to the same number
+pub trims_again : (m n : ℤ) (old new : Outside) (status : ℕ) → m ≡ n → Opened (Trims m old new status) old new → Opened (Trims n old new status) old new
+trims_again m n old new status same opened = subst (λ (k : ℤ). Opened (Trims k old new status) old new) same opened
 
 -- what is kept for a history that just began opens to what is on the disks of its start
 first_opens : (state : State) (c : List ℕ) (done : Option ℕ) → MayReopen done [] → Opens c (state_found state (found_done done [])) → Opens c (durable state)

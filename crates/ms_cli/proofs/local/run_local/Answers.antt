@@ -1,4 +1,4 @@
-use Rattle.std.proofs.Common.{subst}
+use Rattle.std.proofs.Common.{map, string_bytes, subst}
 use Rattle.ms_cli.specs.Words.{Names}
 use Rattle.ms_cli.specs.declared.words.Command.{Command}
 use Rattle.ms_cli.proofs.Statuses.{did_5, did_6, did_9, did_11}
@@ -10,7 +10,7 @@ returns-clause-runs g c = (c.read_words.result, c.read_words.ensures, c.perform.
 pub returns-clause-usage : goal.returns-clause-usage
 returns-clause-usage g c = λ two.
     let wrong = c.perform.ensures.usage two in
-    (wrong.0, subst (λ (n : Command). Names _ n) wrong.1 c.read_words.ensures)
+    (wrong.0, subst (λ (n : Command). Names (map string_bytes c.args.words.now) n) wrong.1 c.read_words.ensures)
 
 pub returns-clause-disk : goal.returns-clause-disk
 returns-clause-disk g c = λ is. did_5 _ _ _ _ c.perform.ensures.did is
