@@ -1,9 +1,7 @@
 -- What is told of a store that was opened and worked at, or made.
-use Rattle.std.proofs.Common.{◌≡◌, ◌∙◌, ℕ, ℤ, ◌≤◌, List, [], ◌∷◌, ◌++◌, map, Option, Some, None, refl, ap, subst, sym, arith}
+use Rattle.std.proofs.Common.{◌≡◌, ◌∙◌, ℕ, ℤ, ◌≤◌, List, [], ◌++◌, map, Option, Some, None, ap, subst, sym, arith}
 use Rattle.std.proofs.lemmas.Bool.{false≢true}
 use Rattle.std.specs.Prelude.{IfSome}
-use Rattle.cat_types.specs.declared.steps.Step.TheVariants.{Trim}
-use Rattle.desk.specs.Adds.{own}
 use Rattle.desk.specs.History.{Entry, MayReopen, Point, Start, found_done, point_after, point_of, state_found, took}
 use Rattle.desk.specs.State.{State, durable, start as new_state}
 use Rattle.engine.specs.Keeping.{IsReopened, Kept, LeavesState}
@@ -11,8 +9,8 @@ use Rattle.engine.specs.Opening.{Opens}
 use Rattle.engine.specs.Stores.{fault_number}
 use Rattle.hms_outside.specs.Disks.{Lies, Went}
 use Rattle.ms_cli.specs.Keeping.{Disk}
-use Rattle.ms_cli.specs.Local.{Made, Serves}
-use Rattle.ms_cli.specs.Opened.{Closed, Opened, Outside, Worked, fault_of}
+use Rattle.ms_cli.specs.Local.{Made}
+use Rattle.ms_cli.specs.Opened.{Closed, Opened, Outside, Worked}
 use Rattle.ms_cli.specs.Telling.{Tells, Writes, made_line, status_of}
 use Rattle.ms_cli.proofs.Keeps.{goes_on_from}
 use Rattle.ms_cli.specs.Trimming.{Trims}

@@ -1,6 +1,6 @@
 -- What a refusal of a store tells.
-use Rattle.std.proofs.Common.{inl, inr, ◌≡◌, ℕ, ◌<◌, List, length, Option, Some, None, refl, sym, subst, ◌∙◌}
-use Rattle.std.specs.Prelude.{◌⊎◌, IfSome}
+use Rattle.std.proofs.Common.{inl, inr, ◌≡◌, ℕ, List, Option, Some, None, refl, sym, subst, ◌∙◌}
+use Rattle.std.specs.Prelude.{IfSome}
 use Rattle.desk.specs.History.{Point}
 use Rattle.engine.specs.Keeping.{Kept}
 use Rattle.engine.specs.Opening.{IsBrokenStore}

@@ -13,14 +13,14 @@ use Rattle.hms_outside.specs.Disks.{Lies}
 use Rattle.hms_outside.specs.Told.{Held}
 use Rattle.ms_cli.specs.Dumping.{MakesDump, TellsDump, WasRefused, wanted_of}
 use Rattle.ms_cli.specs.Keeping.{RefusesBytes, RefusesStore}
-use Rattle.ms_cli.specs.Local.{Did, Serves}
-use Rattle.ms_cli.specs.Opened.{NoStore, Opened, Outside, Unopened, fault_of}
-use Rattle.ms_cli.specs.Telling.{Errors, Lines, Says, refusal_status, refused_dump_line, status_of}
+use Rattle.ms_cli.specs.Local.{Did}
+use Rattle.ms_cli.specs.Opened.{NoStore, Opened, Outside, fault_of}
+use Rattle.ms_cli.specs.Telling.{Errors, Lines, refusal_status, refused_dump_line, status_of}
 use Rattle.ms_cli.specs.Trimming.{TellsTrim, Trims}
 use Rattle.ms_cli.specs.declared.words.Command.{Command}
 use Rattle.ms_cli.specs.declared.words.Command.TheVariants.{Pipe, Init, Dump, Trim, Wrong}
 use Rattle.ms_cli.proofs.Refusing.{store_6}
-use Rattle.ms_journal.specs.Faults.{IsMakingFault, IsOpeningFault}
+use Rattle.ms_journal.specs.Faults.{IsMakingFault}
 use Rattle.ms_journal.specs.declared.fault.OpenFault.{OpenFault}
 use Rattle.ms_journal.specs.declared.fault.OpenFault.TheVariants as opening
 use Rattle.ms_session.specs.Turns.{Shelf}

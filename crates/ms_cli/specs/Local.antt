@@ -1,5 +1,5 @@
 -- What the top call of one process does.
-use Rattle.std.specs.Prelude.{◌≡◌, ◌⊎◌, ℕ, ℤ, List, [], IfSome}
+use Rattle.std.specs.Prelude.{◌≡◌, ◌⊎◌, ℕ, List, [], IfSome}
 use Rattle.desk.specs.History.{Entry}
 use Rattle.desk.specs.State.{start as new_state}
 use Rattle.engine.specs.Keeping.{LeavesState}
