@@ -71,14 +71,14 @@ or_decides (Some x) m e = (
 )
 
 pub below_decides : (e : ℕ) (op : Op) (r : Replica) → Decides (below e op r) (Below e op r)
-below_decides e (PutDb rec) r = is_below r.marks.db e
+below_decides e (PutDb rec) r = is_below _ _
 below_decides e DropDb r = (λ f. absurd (cc), λ h. absurd h)
-below_decides e (PutTable n b rec) r = or_decides (r.objects.tab n) (r.marks.tab n) e
-below_decides e (DropTable n b) r = is_below (r.marks.tab n) e
-below_decides e (MoveTable n b to rec) r = is_below (r.marks.tab n) e
-below_decides e (PutPart n b v rec) r = or_decides (r.objects.par n v) (r.marks.par n v) e
-below_decides e (DropPart n b v) r = is_below (r.marks.par n v) e
-below_decides e (MovePart n b v to rec) r = is_below (r.marks.par n v) e
+below_decides e (PutTable n b rec) r = or_decides (r.objects.tab n) _ _
+below_decides e (DropTable n b) r = is_below _ _
+below_decides e (MoveTable n b to rec) r = is_below _ _
+below_decides e (PutPart n b v rec) r = or_decides (r.objects.par n v) _ _
+below_decides e (DropPart n b v) r = is_below _ _
+below_decides e (MovePart n b v to rec) r = is_below _ _
 
 pub acts_decides : (test : Op → Bool) (e : ℕ) (op : Op) (r : Replica) → Decides (acts test e op r) (Acts (Passes test) e op r)
 acts_decides test e op r = both {Q = Fits op r.objects × Below e op r} (λ h. h, λ h. h) (both (fits_decides op r.objects) (below_decides e op r) (λ p q. (p, q)) (λ h. h.0) (λ h. h.1))
