@@ -1,5 +1,5 @@
 -- A dump's first turn, and its last one.
-use Rattle.std.proofs.Common.{◌≡◌, ℕ, ℤ, Bool, IsTrue, List, [], ◌∷◌, ◌++◌, map, Option, refl, sym, ◌∙◌, ap, subst}
+use Rattle.std.proofs.Common.{◌≡◌, ℕ, ℤ, Bool, IsTrue, List, [], ◌∷◌, ◌++◌, map, Option, refl, sym, ap, subst}
 use Rattle.cat_types.specs.declared.steps.Answer.{Answer}
 use Rattle.cat_types.specs.declared.steps.Answer.TheVariants as answer
 use Rattle.cat_types.specs.declared.steps.Step.TheVariants.{DumpBegin, DumpEnd}
@@ -7,7 +7,7 @@ use Rattle.cat_values.specs.Names.{lower}
 use Rattle.desk.specs.Adds.{Adds}
 use Rattle.desk.specs.Entries.{Others}
 use Rattle.desk.specs.History.{Entry, Legal, Start, point_after, point_of, state_after, took}
-use Rattle.desk.specs.Walks.{Began, Wanted, begin_step, began_answer, place_begun}
+use Rattle.desk.specs.Walks.{Began, begin_step, began_answer, place_begun}
 use Rattle.desk.proofs.Additions.{adds_as, adds_both, adds_one}
 use Rattle.repl_dump.specs.Beginnings.{AnswersBegin, Unbegins}
 use Rattle.repl_dump.specs.Dumps.{Dumps}

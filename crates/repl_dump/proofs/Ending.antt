@@ -1,5 +1,5 @@
 -- How a dump that was begun ends.
-use Rattle.std.proofs.Common.{◌≡◌, ◌≢◌, ◌⊎◌, ℕ, ◌<◌, ◌^◌, Bool, List, [], ◌∷◌, ◌++◌, length, map, codes, Option, Some, None, Result, Ok, Err, refl, sym, ◌∙◌, ap, subst, inl, inr, append_assoc, arith}
+use Rattle.std.proofs.Common.{◌≡◌, ◌≢◌, ℕ, Bool, List, [], ◌∷◌, ◌++◌, map, codes, Option, Some, None, Result, Err, refl, sym, ◌∙◌, ap, subst, inl, inr, append_assoc, arith}
 use Rattle.std.proofs.lemmas.List.{append-nil, append_cancel_left, map-append}
 use Rattle.cat_types.specs.declared.items.Item.{Item}
 use Rattle.cat_types.specs.declared.steps.Answer.{Answer}
@@ -9,7 +9,7 @@ use Rattle.desk.specs.History.{Entry}
 use Rattle.desk.specs.Walks.{Began, Goes, Place, began_answer, done, place_begun}
 use Rattle.desk.specs.Walks as walk
 use Rattle.dump_manifest.specs.Manifests.{dir_text, manifest_code}
-use Rattle.dump_texts.specs.Texts.{at_path, dump_dir, dump_text, end_told, event_texts, files_from, files_told, item_texts, items_text, line_of, manifest_told, name_at, path_in}
+use Rattle.dump_texts.specs.Texts.{at_path, dump_text, end_told, event_texts, files_from, files_told, item_texts, items_text, line_of, manifest_told, name_at, path_in}
 use Rattle.dump_texts.specs.declared.kinds.FileKind.{FileKind}
 use Rattle.dump_texts.specs.declared.kinds.FileKind.TheVariants.{EventFile, ItemFile}
 use Rattle.dump_texts.proofs.Told.{event_texts_both, item_texts_both}
@@ -23,10 +23,10 @@ use Rattle.hms_outside.specs.declared.outage.Outage.{Outage}
 use Rattle.hms_outside.specs.declared.outage.Outage.TheVariants as outages
 use Rattle.repl_dump.specs.Beginnings.{began_of, manifest_of}
 use Rattle.repl_dump.specs.Dumps.{SomeTold}
-use Rattle.repl_dump.specs.Endings.{EndsBroken, EndsDone, EndsSo, StandsBegun, StaysBy, WritesFiles, dir_of, failed_answer}
+use Rattle.repl_dump.specs.Endings.{EndsBroken, EndsSo, StandsBegun, StaysBy, dir_of, failed_answer}
 use Rattle.repl_dump.specs.Files.{Files, Gained, HasPut, HasWritten, IsAmong, OthersStay, OutsideStays, begun_of}
 use Rattle.repl_dump.specs.Turns.{IsOwn, Stopped, ToldBy}
-use Rattle.repl_dump.specs.Walking.{Stands, Wrote, answers_of}
+use Rattle.repl_dump.specs.Walking.{Wrote, answers_of}
 use Rattle.repl_dump.specs.declared.beginning.Beginning.{Beginning}
 use Rattle.repl_dump.specs.declared.dumping.DumpAnswer.TheVariants as dumped
 use Rattle.repl_dump.specs.declared.failure.Failure.{Failure}

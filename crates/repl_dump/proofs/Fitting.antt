@@ -1,11 +1,9 @@
 -- What the steps of an open dump are answered.
-use Rattle.std.proofs.Common.{◌≡◌, ◌≢◌, ℕ, zero, suc, Bool, true, false, cond, List, [], ◌∷◌, map, take, length, Option, Some, None, refl, sym, ◌∙◌, ap, subst, arith}
+use Rattle.std.proofs.Common.{◌≡◌, ◌≢◌, ℕ, zero, suc, Bool, true, false, cond, List, [], ◌∷◌, map, take, length, Option, Some, None, refl, sym, ◌∙◌, subst, arith}
 use Rattle.std.specs.Prelude.{nat_lt}
-use Rattle.std.specs.List.{AllByRecursion, filter}
+use Rattle.std.specs.List.{AllByRecursion}
 use Rattle.std.proofs.lemmas.Bool.{false≢true}
 use Rattle.std.proofs.lemmas.Bool.Decides.{nat_tests}
-use Rattle.cat_types.specs.declared.changes.Event.{Event}
-use Rattle.cat_types.specs.declared.items.Item.{Item}
 use Rattle.cat_types.specs.declared.steps.Answer.{Answer}
 use Rattle.cat_types.specs.declared.steps.Answer.TheVariants as answer
 use Rattle.cat_types.specs.declared.steps.DumpRefusal.TheVariants.{DatabaseGone}
@@ -17,7 +15,7 @@ use Rattle.cat_objects.specs.Parts.{PartList}
 use Rattle.cat_objects.specs.declared.held.HeldTable.{HeldTable}
 use Rattle.desk.specs.State.{MayAnswer, State, due_answer, writes}
 use Rattle.dump_steps.specs.Open.{open_dump, takes_events, takes_objects}
-use Rattle.dump_steps.specs.Pieces.{answered_in, part_item, told_events, told_parts, told_table}
+use Rattle.dump_steps.specs.Pieces.{answered_in, part_item, told_table}
 use Rattle.dump_steps.specs.declared.open_dumps.DumpKind.{DumpKind}
 use Rattle.dump_steps.specs.declared.open_dumps.OpenDump.{OpenDump}
 use Rattle.repl_dump.specs.Turns.{FitsEvents, FitsParts, FitsSeal, FitsTable, IsPart}

@@ -1,7 +1,6 @@
 -- A whole dump: its beginning, and what comes after it.
-use Rattle.std.proofs.Common.{◌≡◌, ◌≢◌, ◌==◌, ◌+◌, ℕ, ℤ, Bool, true, false, not, cond, List, [], ◌∷◌, ◌++◌, map, Option, Some, None, refl, sym, ◌∙◌, ap, subst, inl, inr, eq-eqb}
+use Rattle.std.proofs.Common.{◌≡◌, ◌≢◌, ◌==◌, ℕ, ℤ, Bool, true, false, not, cond, List, [], ◌∷◌, ◌++◌, map, Option, Some, None, refl, sym, ◌∙◌, ap, subst, inl, inr, eq-eqb}
 use Rattle.std.specs.Prelude.{◌&&◌}
-use Rattle.std.specs.List.{filter, find}
 use Rattle.cat_types.specs.declared.items.Item.{Item}
 use Rattle.cat_types.specs.declared.steps.Answer.{Answer}
 use Rattle.cat_types.specs.declared.steps.Answer.TheVariants as answer
@@ -21,7 +20,7 @@ use Rattle.dump_steps.specs.declared.open_dumps.OpenDump.{OpenDump}
 use Rattle.dump_steps.specs.declared.ranges.Asked.{Asked}
 use Rattle.hms_outside.specs.Told.{Goes as Leads}
 use Rattle.repl_dump.specs.Beginnings.{AnswersBegin, Unbegins}
-use Rattle.repl_dump.specs.Dumps.{Dumps, IsBroken, LeavesFiles, NoneTold}
+use Rattle.repl_dump.specs.Dumps.{Dumps, IsBroken, NoneTold}
 use Rattle.repl_dump.specs.Endings.{EndsBroken, EndsSo}
 use Rattle.repl_dump.specs.Files.{Files, OthersStay, OutsideStays}
 use Rattle.repl_dump.specs.Opened.{Takes, allows}

@@ -1,5 +1,5 @@
 -- A walk comes nearer to its end.
-use Rattle.std.proofs.Common.{◌≡◌, ◌≢◌, ℕ, suc, ◌+◌, ◌-◌, ◌*◌, ◌<◌, ◌≤◌, Bool, true, false, cond, List, [], ◌∷◌, ◌++◌, length, map, Option, Some, refl, sym, ◌∙◌, ap, subst, inl, inr, arith}
+use Rattle.std.proofs.Common.{◌≡◌, ◌≢◌, ℕ, ◌+◌, ◌*◌, ◌<◌, ◌≤◌, Bool, true, false, cond, List, [], ◌∷◌, ◌++◌, length, map, Some, refl, sym, ◌∙◌, ap, subst, inl, inr, arith}
 use Rattle.std.proofs.lemmas.List.{length-append, length-map}
 use Rattle.cat_types.specs.declared.changes.Event.{Event}
 use Rattle.cat_types.specs.declared.items.Item.{Item}
@@ -9,7 +9,7 @@ use Rattle.cat_values.specs.declared.list_of.TheConstants.{LIST_END}
 use Rattle.desk.specs.Walks.{Moves, Place}
 use Rattle.desk.specs.Walks as walk
 use Rattle.dump_texts.specs.Texts.{line_of}
-use Rattle.repl_dump.specs.Files.{Files, IsTold, files_next}
+use Rattle.repl_dump.specs.Files.{files_next}
 use Rattle.repl_dump.specs.Turns.{FitsPlace, place_of, rank, steps_left}
 use Rattle.repl_dump.specs.declared.place.Place.{Place as At}
 use Rattle.repl_dump.specs.declared.place.Place.TheVariants as at

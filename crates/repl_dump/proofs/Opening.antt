@@ -1,23 +1,12 @@
 -- A caller's open dump stays open over its own steps, up to the last one.
-use Rattle.std.proofs.Common.{◌≡◌, ℕ, Bool, true, false, cond, List, [], ◌∷◌, Option, Some, None, refl, sym, ◌∙◌, ap, subst}
-use Rattle.std.specs.Prelude.{◌&&◌}
-use Rattle.std.proofs.lemmas.Bool.{false≢true}
+use Rattle.std.proofs.Common.{◌≡◌, ℕ, Bool, true, false, cond, List, [], ◌∷◌, Some, refl, ◌∙◌, ap}
 use Rattle.cat_types.specs.declared.steps.Answer.{Answer}
-use Rattle.cat_types.specs.declared.steps.Answer.TheVariants as answer
-use Rattle.cat_types.specs.declared.steps.DumpRefusal.TheVariants.{DatabaseGone}
 use Rattle.cat_types.specs.declared.steps.Step.{Step}
-use Rattle.cat_types.specs.declared.steps.Step.TheVariants.{DumpEvents, DumpParts, DumpSeal, DumpTable}
-use Rattle.cat_objects.specs.Catalogue.{database}
-use Rattle.cat_objects.specs.Changes.{is_born}
-use Rattle.desk.specs.State.{MayAnswer, State, due, due_dumps, is_refused, state_after_answer}
-use Rattle.desk.specs.Walks.{step_at}
-use Rattle.dump_steps.specs.Open.{is_dump, open_dump, sealed_at, takes_events, takes_objects, with_sealed}
-use Rattle.dump_steps.specs.Pieces.{answered_in, is_taken_in}
-use Rattle.dump_steps.specs.declared.open_dumps.DumpKind.{DumpKind}
+use Rattle.cat_types.specs.declared.steps.Step.TheVariants.{DumpSeal}
+use Rattle.desk.specs.State.{State, due, due_dumps, is_refused, state_after_answer}
+use Rattle.dump_steps.specs.Open.{is_dump, open_dump, sealed_at, takes_objects, with_sealed}
+use Rattle.dump_steps.specs.Pieces.{is_taken_in}
 use Rattle.dump_steps.specs.declared.open_dumps.OpenDump.{OpenDump}
-use Rattle.repl_dump.specs.Turns.{place_of}
-use Rattle.repl_dump.specs.declared.place.Place.{Place as At}
-use Rattle.repl_dump.specs.declared.place.Place.TheVariants as at
 
 -- a step that leaves the open dumps where it is answered as is due leaves them however it is answered
 pub same_dumps : (s : State) (me : ℕ) (step : Step) (given : Answer) → due_dumps s me step ≡ s.dumps → (state_after_answer s me step given).dumps ≡ s.dumps

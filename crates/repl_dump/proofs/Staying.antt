@@ -1,12 +1,9 @@
 -- An open dump stays open while others take their turns.
-use Rattle.std.proofs.Common.{◌≡◌, ◌==◌, ℕ, ◌+◌, Bool, true, false, not, cond, List, [], ◌∷◌, ◌++◌, map, Option, Some, None, refl, sym, ◌∙◌, ap, subst, arith}
-use Rattle.std.specs.Prelude.{◌&&◌}
-use Rattle.std.specs.List.{filter, find}
+use Rattle.std.proofs.Common.{◌≡◌, ℕ, ◌+◌, Bool, true, false, not, cond, List, [], ◌∷◌, ◌++◌, map, Option, Some, None, refl, ◌∙◌, ap, arith}
+use Rattle.std.specs.List.{find}
 use Rattle.std.specs.Option.{option_or}
-use Rattle.std.proofs.lemmas.Bool.{false≢true}
 use Rattle.std.proofs.lemmas.Bool.Decides.{nat_tests}
 use Rattle.std.proofs.lemmas.List.Folds.{find-append}
-use Rattle.cat_types.specs.declared.steps.Answer.{Answer}
 use Rattle.cat_types.specs.declared.steps.DumpRefusal.{DumpRefusal}
 use Rattle.cat_types.specs.declared.steps.Step.{Step}
 use Rattle.cat_types.specs.declared.steps.Step.TheVariants.{Client, DumpBegin, DumpEnd, DumpEvents, DumpParts, DumpSeal, DumpTable, Trim}
@@ -14,8 +11,8 @@ use Rattle.cat_objects.specs.Catalogue.{database}
 use Rattle.cat_objects.specs.declared.held.HeldDb.{HeldDb}
 use Rattle.cat_values.specs.Names.{lower}
 use Rattle.desk.specs.Entries.{Others}
-use Rattle.desk.specs.History.{Entry, IsLegal, MayFollow, Point, Transition, next, point_after, took}
-use Rattle.desk.specs.State.{State, asked_for, beginning, beginning_by, due, due_dumps, dumps_begun, is_refused, refused_dump}
+use Rattle.desk.specs.History.{Entry, IsLegal, MayFollow, Point, next, point_after, took}
+use Rattle.desk.specs.State.{State, asked_for, beginning_by, due, due_dumps, dumps_begun, is_refused, refused_dump}
 use Rattle.dump_steps.specs.Open.{is_dump, open_dump, sealed_at, takes_objects, with_sealed, without_dump}
 use Rattle.dump_steps.specs.Pieces.{is_taken_in}
 use Rattle.dump_steps.specs.declared.open_dumps.OpenDump.{OpenDump}

@@ -1,10 +1,7 @@
 -- Where a walk stops.
-use Rattle.std.proofs.Common.{◌≡◌, ◌≢◌, ◌⊎◌, ℕ, List, [], ◌∷◌, ◌++◌, Option, Some, refl, sym, ◌∙◌, ap, subst, inl, inr, append_assoc}
-use Rattle.cat_types.specs.declared.steps.Answer.{Answer}
-use Rattle.cat_types.specs.declared.steps.Answer.TheVariants as answer
+use Rattle.std.proofs.Common.{◌≡◌, ◌≢◌, ℕ, List, [], ◌∷◌, ◌++◌, Some, refl, sym, ◌∙◌, ap, inl, inr, append_assoc}
 use Rattle.desk.specs.History.{Entry}
-use Rattle.desk.specs.Walks.{Fails, Goes, MayFail, Moves, Place, done, step_at}
-use Rattle.desk.specs.Walks as walk
+use Rattle.desk.specs.Walks.{Goes, Place, done, step_at}
 use Rattle.repl_dump.specs.Turns.{Breaks, IsOwn, Refuses, Stopped, ToldBy, place_of}
 use Rattle.repl_dump.specs.declared.failure.Failure.{Failure}
 use Rattle.repl_dump.specs.declared.failure.Failure.TheVariants as failure

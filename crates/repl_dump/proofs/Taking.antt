@@ -1,5 +1,5 @@
 -- One own turn of a walk.
-use Rattle.std.proofs.Common.{◌≡◌, ℕ, ◌<◌, ◌≤◌, ◌^◌, Bool, IsTrue, List, [], ◌∷◌, ◌++◌, length, Option, Some, Result, Ok, Err, refl, sym, ◌∙◌, ap, subst}
+use Rattle.std.proofs.Common.{◌≡◌, ℕ, ◌<◌, ◌≤◌, ◌^◌, Bool, IsTrue, List, [], ◌∷◌, ◌++◌, length, Option, Some, Result, Ok, Err, refl, sym, subst}
 use Rattle.std.specs.Prelude.{IfOk, MatchResult}
 use Rattle.cat_types.specs.declared.steps.Answer.{Answer}
 use Rattle.cat_types.specs.declared.steps.Step.{Step}
@@ -7,7 +7,7 @@ use Rattle.cat_values.specs.declared.list_of.TheConstants.{LIST_END}
 use Rattle.desk.specs.Adds.{Adds}
 use Rattle.desk.specs.Entries.{Others}
 use Rattle.desk.specs.History.{Entry, Legal, Start}
-use Rattle.desk.specs.Walks.{Place, step_at}
+use Rattle.desk.specs.Walks.{step_at}
 use Rattle.desk.proofs.Additions.{adds_one}
 use Rattle.dump_steps.specs.declared.open_dumps.DumpKind.{DumpKind}
 use Rattle.repl_dump.specs.Files.{Files}

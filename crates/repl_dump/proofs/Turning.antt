@@ -1,17 +1,16 @@
 -- What one own step does with an open dump.
-use Rattle.std.proofs.Common.{◌≡◌, ℕ, Bool, true, false, cond, List, [], ◌∷◌, ◌++◌, map, Option, Some, None, refl, sym, ◌∙◌, ap, subst, inl, inr}
+use Rattle.std.proofs.Common.{◌≡◌, ℕ, Bool, true, false, cond, List, [], ◌∷◌, ◌++◌, map, Option, Some, refl, sym, ◌∙◌, ap, subst, inl, inr}
 use Rattle.std.specs.Prelude.{◌&&◌}
-use Rattle.std.proofs.lemmas.Bool.{false≢true}
 use Rattle.cat_types.specs.declared.steps.Answer.{Answer}
 use Rattle.cat_types.specs.declared.steps.Answer.TheVariants as answer
 use Rattle.cat_types.specs.declared.steps.DumpRefusal.TheVariants.{DatabaseGone}
 use Rattle.cat_types.specs.declared.steps.Step.{Step}
 use Rattle.cat_types.specs.declared.steps.Step.TheVariants.{DumpEvents, DumpParts, DumpSeal, DumpTable}
-use Rattle.cat_objects.specs.Catalogue.{Catalogue, database}
+use Rattle.cat_objects.specs.Catalogue.{database}
 use Rattle.cat_objects.specs.Changes.{is_born}
 use Rattle.desk.specs.Entries.{Others}
 use Rattle.desk.specs.History.{Entry, Legal, Point, Start, point_after, point_of, state_after, took}
-use Rattle.desk.specs.State.{MayAnswer, State, due_dumps, state_after_answer}
+use Rattle.desk.specs.State.{MayAnswer, State, due_dumps}
 use Rattle.desk.specs.Walks.{Moves, Place, step_at}
 use Rattle.desk.specs.Walks as walk
 use Rattle.dump_steps.specs.Open.{open_dump, sealed_at, takes_events, takes_objects, with_sealed}

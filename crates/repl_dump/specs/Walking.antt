@@ -1,5 +1,5 @@
 -- What a walk did up to a place: its entries, and what was written of their answers.
-use Rattle.std.specs.Prelude.{◌≡◌, ◌≢◌, ℕ, List, [], ◌∷◌, ◌++◌, map, Option, Result, MatchResult}
+use Rattle.std.specs.Prelude.{◌≡◌, ℕ, List, [], ◌++◌, map, Option, Result, MatchResult}
 use Rattle.cat_types.specs.declared.steps.Answer.{Answer}
 use Rattle.desk.specs.History.{Entry}
 use Rattle.desk.specs.Walks.{Goes, Place}

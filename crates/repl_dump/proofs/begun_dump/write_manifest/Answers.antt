@@ -1,4 +1,4 @@
-use Rattle.std.proofs.Common.{codes, ◌∙◌}
+use Rattle.std.proofs.Common.{◌∙◌}
 use Rattle.dump_manifest.specs.Manifests.{manifest_code}
 use Rattle.repl_dump.specs.Beginnings.{manifest_of}
 use Rattle.repl_dump.proofs.Ending.{code_is, manifest_put, manifest_stays}
