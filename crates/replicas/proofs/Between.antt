@@ -8,10 +8,12 @@ use Rattle.replicas.specs.Objects.{Name, Values, Table, Objects, Marks, Replica,
 use Rattle.replicas.specs.Operations.{touches_db, touches_tab, touches_par, Done}
 use Rattle.replicas.specs.Replay.{Marked, Replays}
 
+-- what has a mark up to `lim` is as in the state now, what has a later one as after it
 pub record Since (after : ℕ → Objects) (lim : ℕ) (s : Objects) (m : ℕ) (P : Objects → Type 0) : Type 0 where
   pub low : m ≤ lim → P s
   pub high : lim < m → P (after m)
 
+-- some number after `lim`, up to the end
 pub record Later (after : ℕ → Objects) (lim end : ℕ) (P : Objects → Type 0) : Type 0 where
   pub number : ℕ
   pub above : lim < number
@@ -22,20 +24,24 @@ pub record Later (after : ℕ → Objects) (lim end : ℕ) (P : Objects → Type
 abbrev pub Sometime : (ℕ → Objects) → ℕ → ℕ → Objects → (Objects → Type 0) → Type 0
 Sometime after lim end s P = P s ⊎ Later after lim end P
 
+-- what holds of the database
 pub record DbStands (after : ℕ → Objects) (lim end : ℕ) (s : Objects) (r : Replica) (h : ℕ × DbRec) : Type 0 where
   pub mark : r.marks.db ≤ end
   pub since : Since after lim s r.marks.db (λ x. x.db ≡ Some h)
 
+-- of a table
 pub record TableStands (after : ℕ → Objects) (lim end : ℕ) (s : Objects) (r : Replica) (n : Name) (x : Table) : Type 0 where
   pub mark : r.marks.tab n ≤ end
   pub since : Since after lim s (r.marks.tab n) (λ y. y.tab n ≡ Some x)
 
+-- and of a partition with its table
 pub record PartStands (after : ℕ → Objects) (lim end : ℕ) (s : Objects) (r : Replica) (n : Name) (w : Values) (p : PartRec) : Type 0 where
   pub table : Table
   pub there : r.objects.tab n ≡ Some table
   pub mark : r.marks.par n w ≤ end
   pub since : Since after lim s (r.marks.par n w) (IsPart table.0 n w p)
 
+-- all of a replica between two operations
 pub record Between (after : ℕ → Objects) (lim end : ℕ) (s : Objects) (r : Replica) : Type 0 where
   pub db_there : Has r.objects.db
   pub db : (h : ℕ × DbRec) → r.objects.db ≡ Some h → DbStands after lim end s r h

@@ -72,6 +72,7 @@ at_later (event ∷ before) events i =
     let same : length (event ∷ before) + i ≡ suc (length before + i) = omega arith in
     ap (λ (k : ℕ). change_at k (event ∷ (before ++ events))) same ∙ at_later before events i
 
+-- events that are due behind others
 pub record Behind (at : ℕ) (events : List Event) : Type 0 where
   pub cat : Catalogue
   pub due : AllDue at cat events

@@ -4,13 +4,14 @@ use Rattle.cat_types.specs.declared.changes.Op.{Op}
 use Rattle.cat_types.specs.declared.changes.Op.TheVariants.{DropDb, DropPart, DropTable, MovePart, MoveTable, PutDb, PutPart, PutTable}
 use Rattle.cat_values.specs.declared.records.PartRec.{PartRec}
 use Rattle.replicas.specs.Keeping.{SameTable, SamePart, IsRooted, MarksGrow}
-use Rattle.replicas.specs.Laws.{MarksNeverFall, Passes}
+use Rattle.replicas.specs.Laws.{MarksNeverFall, Passes, StandingIsRooted}
 use Rattle.replicas.specs.Objects.{Name, Values, Table, Objects, Replica, Has}
 use Rattle.replicas.specs.Operations.{touches_db, touches_tab, touches_par, Fits, Done}
 use Rattle.replicas.specs.Replay.{TookEffect, Replays}
 use Rattle.replicas.specs.Source.{AllApart, Each, IsApart}
 use Rattle.replicas.specs.Stands.{ReplaysAll}
 use Rattle.replicas.proofs.Basics.{same_name, same_values, not_both}
+use Rattle.replicas.proofs.Invariants.{well_held}
 use Rattle.replicas.proofs.Untouched.{db_kept, tab_kept, par_kept}
 
 -- ---- what an operation touches can be told
@@ -245,3 +246,11 @@ ops_grow Sound e (op ∷ ops) r r' apart rooted replays =
 
 pub never_fall : MarksNeverFall
 never_fall test e ops r r' apart rooted replays = ops_grow (Passes test) e ops r r' apart rooted replays
+
+pub stands_rooted : StandingIsRooted
+stands_rooted test after ops made newest begin at end r source low high = (
+  λ h n w p is. let under = h.parts n w p is in record { value = under.table; is = under.there },
+  λ h n w p is.
+      let held = well_held (Passes test) after ops made newest source at low high n w p (sym (h.objects.par n w) ∙ is) in
+      record { value = held.table; is = h.objects.tab n ∙ held.is },
+)

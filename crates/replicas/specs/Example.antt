@@ -18,13 +18,15 @@ use Rattle.replicas.specs.Source.{NoMoves}
 use Rattle.replicas.specs.Stands.{StandsEvents, StandsLive}
 use Rattle.replicas.specs.Stores.{RedoesEvents, Store, replica_of}
 
--- the names in the example
+-- the name of the database
 abbrev pub the_db : Name
 the_db = codes "d"
 
+-- of the table
 abbrev pub the_table : Name
 the_table = codes "t"
 
+-- and of the table after it was renamed
 abbrev pub other_table : Name
 other_table = codes "u"
 

@@ -93,6 +93,11 @@ RepeatedReplaysDoNothing = (test : Op → Bool) (e : ℕ) (ops : List Op) (r q q
 abbrev pub MarksNeverFall : Type 0
 MarksNeverFall = (test : Op → Bool) (e : ℕ) (ops : List Op) (r r' : Replica) → AllApart ops → IsRooted r.objects → ReplaysAll (Passes test) e ops r r' → MarksGrow r r' × IsRooted r'.objects
 
+-- and each partition of a replica that stands, half-loaded or live, stands under a table
+abbrev pub StandingIsRooted : Type 0
+StandingIsRooted = (test : Op → Bool) (after : ℕ → Objects) (ops : ℕ → List Op) (made newest begin at end : ℕ) (r : Replica) → Source (Passes test) after ops made newest → made ≤ at → at ≤ newest
+    → (StandsEvents after begin at end r → IsRooted r.objects) × (StandsLive after at r → IsRooted r.objects)
+
 -- behind event e what isn't as it was has the mark e
 abbrev pub MarksTellChanges : Type 0
 MarksTellChanges = (test : Op → Bool) (e : ℕ) (ops : List Op) (r r' : Replica) → ReplaysAll (Passes test) e ops r r' → MarksTell e r r'

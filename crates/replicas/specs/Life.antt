@@ -44,5 +44,6 @@ AreNumbered changes at end (e ∷ es) = (e.id ≡ at + 1) × (e.change ≡ chang
 abbrev pub is_of : Name → ℕ → Event → Bool
 is_of w b e = bytes_eq e.change.db w && (e.change.db_born == b)
 
+-- an event above a number
 abbrev pub is_above : ℕ → Event → Bool
 is_above at e = nat_lt at e.id

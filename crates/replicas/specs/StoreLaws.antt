@@ -27,7 +27,7 @@ use Rattle.replicas.specs.Stores.{Redoes, RedoesAll, RedoesEvents, Store, TakesE
 
 -- ---- one operation
 
--- on a replica that is there an operation acts exactly where it takes effect by the papers' rule, but for a drop of the database
+-- on a replica that is there an operation acts exactly where it takes effect, but for a drop of the database
 abbrev pub ActsWhereItTakesEffect : Type 0
 ActsWhereItTakesEffect = (w : Name) (e : ℕ) (op : Op) (s : Store) → Has (objects_of w s.catalogue).db → (op ≡ DropDb → ⊥) → (Acts (Passes is_sound) e op (replica_of w s) → TakesEffect w e op s) × (TakesEffect w e op s → Acts (Passes is_sound) e op (replica_of w s))
 

@@ -21,7 +21,7 @@ pub record Store : Type 0 where
 abbrev pub replica_of : Name → Store → Replica
 replica_of w s = record { objects = objects_of w s.catalogue; marks = s.marks }
 
--- an operation of event e takes effect on a replica by the rule of the papers: it is lawful there, finds what it drops, moves or stands under, and what it changes has a mark below e
+-- an operation of event e takes effect on a replica: it is lawful there, finds what it drops, moves or stands under, and what it changes has a mark below e
 pub record TakesEffect (w : Name) (e : ℕ) (op : Op) (s : Store) : Type 0 where
   pub lawful : is_lawful s.catalogue w op ≡ true
   pub found : finds s.catalogue w op ≡ true

@@ -16,6 +16,7 @@ ghost use Rattle.replicas.specs.Laws.{
   NewerPartsStay,
   RepeatedReplaysDoNothing,
   ReplayNeverGoesBack,
+  StandingIsRooted,
 };
 
 /// The next event of a database keeps what a half-loaded replica stands for.
@@ -79,9 +80,11 @@ pub fn repeated_replays_do_nothing()
     ensures { RepeatedReplaysDoNothing }
 {}
 
-/// No object that is there before and behind an event has a lower mark behind it.
+/// No object that is there before and behind an event has a lower mark behind it, where each partition
+/// stands under a table, as on each replica that stands.
 pub fn marks_never_fall()
-    ensures { MarksNeverFall }
+    ensures grow { MarksNeverFall }
+    ensures rooted { StandingIsRooted }
 {}
 
 /// Behind event e, what isn't as it was has the mark e, but for partitions that moved along with their
