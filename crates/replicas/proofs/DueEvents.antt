@@ -1,13 +1,15 @@
 -- Events in a list, each of which is due, by their numbers.
-use Rattle.std.proofs.Common.{◌≡◌, ℕ, zero, suc, ◌+◌, ◌-◌, ◌≤◌, ◌<◌, true, List, [], ◌∷◌, ◌++◌, length, refl, sym, ◌∙◌, ap, subst, arith}
+use Rattle.std.proofs.Common.{◌≡◌, ℕ, zero, suc, ◌+◌, ◌-◌, ◌≤◌, ◌<◌, Bool, true, false, List, [], ◌∷◌, ◌++◌, length, refl, sym, ◌∙◌, ap, subst, arith}
+use Rattle.std.specs.Prelude.{◌==◌, ◌&&◌, bytes_eq, cond}
+use Rattle.std.proofs.lemmas.Slice.Eq.{bytes_eq-Decides}
 use Rattle.cat_objects.specs.Catalogue.{Catalogue}
 use Rattle.cat_objects.specs.Changes.{done, takes_change}
 use Rattle.cat_types.specs.declared.changes.Change.{Change}
 use Rattle.cat_types.specs.declared.changes.Event.{Event}
-use Rattle.replicas.specs.Histories.{AllDue, BornsAreNew, IsNew, after_first, change_at}
+use Rattle.replicas.specs.Histories.{AllDue, BornsAreNew, IsDue, IsNew, after_first, change_at}
 use Rattle.replicas.specs.Life.{AreNumbered}
-use Rattle.replicas.specs.Source.{AllApart}
-use Rattle.replicas.specs.StoreLaws.{DueEventsAreChanges, DueEventsAreNumbered}
+use Rattle.replicas.specs.Source.{AllApart, Each, IsNoMove}
+use Rattle.replicas.specs.StoreLaws.{DueEventsAreChanges, DueEventsAreNumbered, DueEventsGrow, UnmovedRanges}
 
 -- what is known of the event at a place, which has the number n
 pub record At (n i : ℕ) (cat : Catalogue) (events : List Event) : Type 0 where
@@ -101,3 +103,21 @@ due_are_numbered base cat before range rest due =
     let behind = due_behind base cat before (range ++ rest) due in
     range_by (λ k. change_at (k - (base + 1)) (before ++ (range ++ rest))) (base + length before) behind.cat range rest behind.due
     (λ i lt. let same : (base + length before + i + 1) - (base + 1) ≡ length before + i = omega arith in ap (λ (k : ℕ). change_at k (before ++ (range ++ rest))) same ∙ at_later before (range ++ rest) i)
+
+-- ---- one event more
+
+pub due_grow : DueEventsGrow
+due_grow at cat [] event due next = (subst (λ (k : ℕ). IsDue k cat event) (let same : at + 0 ≡ at = omega arith in same) next, tt)
+due_grow at cat (first ∷ events) event due next =
+    let same : at + length (first ∷ events) ≡ (at + 1) + length events = omega arith in
+    (due.0, due_grow (at + 1) (done first.change cat) events event due.1 (subst (λ (k : ℕ). IsDue k (after_first (length events) (done first.change cat) events) event) same next))
+
+-- ---- ranges without moves
+
+pub unmoved : UnmovedRanges
+unmoved w b changes begin end none e low high = by (bytes_eq (changes e).db w) refl ((changes e).db_born == b)
+  where
+    by : (c : Bool) → bytes_eq (changes e).db w ≡ c → (d : Bool) → Each IsNoMove (cond (c && d) (changes e).ops [])
+    by true is true = none e low high ((bytes_eq-Decides (changes e).db w).0 is)
+    by true is false = tt
+    by false is d = tt

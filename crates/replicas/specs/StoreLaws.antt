@@ -1,5 +1,5 @@
 -- The laws over the catalogues of a source and of a replica's store.
-use Rattle.std.specs.Prelude.{◌≡◌, ◌||◌, ℕ, ◌+◌, ◌-◌, ◌++◌, length, ◌<◌, ◌≤◌, true, List, [], Some, filter}
+use Rattle.std.specs.Prelude.{◌≡◌, ◌||◌, ℕ, ◌+◌, ◌-◌, ◌++◌, length, ◌<◌, ◌≤◌, true, List, [], ◌∷◌, Some, filter}
 use Rattle.std.specs.Cmp.Lexicographic.{slice_cmp}
 use Rattle.std.specs.List.{AllByRecursion}
 use Rattle.std.specs.List.Sorted.{IsStrictlySortedBy}
@@ -15,13 +15,13 @@ use Rattle.cat_types.specs.declared.changes.Op.{Op}
 use Rattle.cat_types.specs.declared.changes.Op.TheVariants.{DropDb}
 use Rattle.cat_values.specs.Names.{is_object_name}
 use Rattle.replicas.specs.Catalogues.{IsInOrder, is_sound, objects_of}
-use Rattle.replicas.specs.Histories.{AllDue, AreChanges, AreLawful, IsNew, ValuesDiffer, after_first, change_at, source_of}
+use Rattle.replicas.specs.Histories.{AllDue, AreChanges, AreLawful, IsDue, IsNew, ValuesDiffer, after_first, change_at, source_of}
 use Rattle.replicas.specs.Laws.{Passes}
 use Rattle.replicas.specs.Life.{AreNumbered, HasDb, Life, is_above, is_of, ops_of}
 use Rattle.replicas.specs.Objects.{Name, Has, Table}
 use Rattle.replicas.specs.Operations.{Done, Fits}
 use Rattle.replicas.specs.Replay.{Acts}
-use Rattle.replicas.specs.Source.{AllApart, NoMoves}
+use Rattle.replicas.specs.Source.{AllApart, Each, IsNoMove, NoMoves}
 use Rattle.replicas.specs.Stands.{Quiet, ReplaysEvents, StandsEvents, StandsLive}
 use Rattle.replicas.specs.Stores.{Redoes, RedoesAll, RedoesEvents, Store, TakesEffect, replayed, replica_of}
 
@@ -57,10 +57,18 @@ ChangesAreLives = (w : Name) (cats : ℕ → Catalogue) (changes : ℕ → Chang
 abbrev pub DueEventsAreChanges : Type 0
 DueEventsAreChanges = (base : ℕ) (cat : Catalogue) (events : List Event) → IsNew base cat → AllDue base cat events → AreChanges (λ k. after_first (k - base) cat events) (λ k. change_at (k - (base + 1)) events) base (base + length events)
 
+-- an event that is due behind them is due with them
+abbrev pub DueEventsGrow : Type 0
+DueEventsGrow = (at : ℕ) (cat : Catalogue) (events : List Event) (event : Event) → AllDue at cat events → IsDue (at + length events) (after_first (length events) cat events) event → AllDue at cat (events ++ event ∷ [])
+
 -- and each range of them is numbered
 abbrev pub DueEventsAreNumbered : Type 0
 DueEventsAreNumbered = (base : ℕ) (cat : Catalogue) (before range rest : List Event) → AllDue base cat (before ++ (range ++ rest))
     → AreNumbered (λ k. change_at (k - (base + 1)) (before ++ (range ++ rest))) (base + length before) (base + length before + length range) range
+
+-- where no change of the database between two numbers moves anything, no event of it under a born does
+abbrev pub UnmovedRanges : Type 0
+UnmovedRanges = (w : Name) (b : ℕ) (changes : ℕ → Change) (begin end : ℕ) → ((e : ℕ) → begin < e → e ≤ end → (changes e).db ≡ w → Each IsNoMove (changes e).ops) → NoMoves (ops_of w b changes) begin end
 
 -- each operation of a history is lawful, and finds what it needs, in the catalogue with the operations before it
 abbrev pub HistoriesAreLawful : Type 0

@@ -9,6 +9,7 @@ ghost use Rattle.replicas.specs.StoreLaws.{
   DropsNeverAct,
   DueEventsAreChanges,
   DueEventsAreNumbered,
+  DueEventsGrow,
   FittingActs,
   HistoriesAreLawful,
   HistoriesStayInOrder,
@@ -22,6 +23,7 @@ ghost use Rattle.replicas.specs.StoreLaws.{
   StoresGoLive,
   StoresReplay,
   StoresStayLive,
+  UnmovedRanges,
 };
 
 /// An operation acts on a replica exactly where it is lawful, finds what it needs, and what it changes has
@@ -51,11 +53,13 @@ pub fn histories_are_lives()
     ensures rising { RisingIsInOrder }
 {}
 
-/// Events each of which is due on what those before it make are a history by their numbers, and each range
-/// of them is numbered.
+/// Events each of which is due on what those before it make are a history by their numbers, also with one
+/// more that is due behind them; each range of them is numbered, and moves nothing where no change does.
 pub fn due_events_are_histories()
     ensures changes { DueEventsAreChanges }
+    ensures grow { DueEventsGrow }
     ensures ranges { DueEventsAreNumbered }
+    ensures unmoved { UnmovedRanges }
 {}
 
 /// What is replayed in a store is replayed on its replica: so the laws of marks hold of stores too.
