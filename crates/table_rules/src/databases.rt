@@ -52,7 +52,7 @@ pub(crate) fn matching_names<V>(
     pattern: &Text,
     entries: Iter<'_, Text, V>,
 ) -> Result<Texts, NoMemory>
-    ensures { IfOk result (λ names. names ≡ matching pattern.now (keys_of entries)) }
+    ensures { IfOk result (λ names. names ≡ matching pattern.now (keys_of entries.entry)) }
 {
     let mut found = ListOf::new(alloc);
     for (name, _) in entries {
