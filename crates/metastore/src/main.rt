@@ -43,9 +43,16 @@ fn main(rt: HostRuntime) -> ExitCode {
                 disk_b,
             )
         }
-        Ok(Plan::Serve { port, workers }) => {
-            serve(&rt, command, port, workers, &mut errors, disk_a, disk_b)
-        }
+        Ok(Plan::Serve { port, workers }) => serve(
+            &rt,
+            command,
+            dumps.as_str(),
+            port,
+            workers,
+            &mut errors,
+            disk_a,
+            disk_b,
+        ),
         Err(_) => 10,
     };
     ExitCode::from(status)
