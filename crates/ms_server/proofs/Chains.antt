@@ -1,13 +1,13 @@
 -- How connections that are served go together.
-use Rattle.std.proofs.Common.{Bool, ◌≡◌, ℕ, ◌+◌, ◌<◌, ◌≤◌, List, [], ◌∷◌, ◌++◌, length, refl, sym, ◌∙◌, ap, subst, arith}
-use Rattle.std.specs.Prelude.{Option, None, Some, IfSome, ◌≢◌}
+use Rattle.std.proofs.Common.{Bool, ◌≡◌, ℕ, ◌+◌, ◌<◌, ◌≤◌, List, [], ◌∷◌, ◌++◌, refl, sym, ◌∙◌, ap, subst, arith}
+use Rattle.std.specs.Prelude.{Option, None, Some, IfSome}
 use Rattle.std.specs.List.{flat_map}
 use Rattle.std.proofs.lemmas.Grind.{flat_map-append}
 use Rattle.std.proofs.lemmas.List.{length-append, append-nil}
-use mathlib.Core.Logic.{◌⊎◌, inl, inr}
+use mathlib.Core.Logic.{inr}
 use Rattle.desk.specs.History.{Entry}
 use Rattle.desk.specs.Adds.{Adds}
-use Rattle.desk.proofs.Additions.{adds_as, adds_both, adds_weaker}
+use Rattle.desk.proofs.Additions.{adds_as, adds_both}
 use Rattle.hms_listeners.specs.Listening.{Appended, HandsOut, HoldsNothing, as_returned}
 use Rattle.hms_outside.specs.Told.{Goes}
 use Rattle.hms_outside.specs.Causes.{Rose}

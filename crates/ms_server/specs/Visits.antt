@@ -1,12 +1,12 @@
 -- The connections that a worker serves, one after the other.
-use Rattle.std.specs.Prelude.{◌≡◌, ◌≢◌, ◌⊎◌, ◌<◌, ◌≤◌, ◌↔◌, ℕ, List, [], ◌∷◌, length, Option, None, Some, IfSome, Result, MatchResult}
+use Rattle.std.specs.Prelude.{◌≡◌, ◌⊎◌, ◌<◌, ◌≤◌, ◌↔◌, ℕ, List, [], ◌∷◌, length, Option, Some, IfSome, Result, MatchResult}
 use Rattle.std.specs.List.{flat_map}
 use Rattle.desk.specs.History.{Entry}
 use Rattle.hms_listeners.specs.Listening.{Appended, HandsOut, HoldsNothing, Returned, as_returned}
 use Rattle.hms_outside.specs.Causes.{Rose}
 use Rattle.hms_outside.specs.Told.{Goes}
 use Rattle.hms_outside.specs.declared.outage.Outage.{Outage}
-use Rattle.hms_outside.specs.declared.outage.Outage.TheVariants.{Failed, NoMemory}
+use Rattle.hms_outside.specs.declared.outage.Outage.TheVariants.{Failed}
 use Rattle.ms_server.specs.declared.post.Post.{Post}
 use Rattle.ms_session.specs.Session.{Met, Session}
 use Rattle.ms_session.specs.Turns.{Files, Shelf, shelf_of}

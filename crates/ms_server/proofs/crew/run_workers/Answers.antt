@@ -1,4 +1,4 @@
-use Rattle.std.proofs.Common.{rules, ◌∙◌, ap}
+use Rattle.std.proofs.Common.{◌∙◌, ap}
 use Rattle.turn_lock.specs.Passes.{past_of, joined_of, splits_of}
 use Rattle.ms_server.specs.Visits.{around}
 use Rattle.ms_server.proofs.Joining.{closed_all, closed_nobody, closed_steps, closed_unused}

@@ -1,7 +1,5 @@
-use Rattle.std.proofs.Common.{rules, ◌≡◌, ◌<◌, sym, subst}
+use Rattle.std.proofs.Common.{rules}
 use Rattle.desk.proofs.Additions.{adds_weaker}
-use Rattle.hms_listeners.specs.Listening.{Appended, HandsOut, as_returned}
-use Rattle.hms_outside.specs.Told.{Goes}
 use Rattle.ms_server.proofs.Chains.{visited}
 use Rattle.ms_server.specs.Visits.{around}
 use Rattle.ms_server.proofs.serving.serve_one.Goals as goal

@@ -1,4 +1,4 @@
-use Rattle.std.proofs.Common.{rules, ◌≡◌, ◌+◌, ◌∙◌, ap, subst, sym, arith, take, vec_len, length}
+use Rattle.std.proofs.Common.{rules, ◌≡◌, ◌∙◌, ap, subst, sym, arith, take, vec_len, length}
 use Rattle.turn_lock.specs.Passes.{caller_of, seen_of, joined_of}
 use Rattle.ms_server.specs.Crews.{AllJoined, Ran}
 use Rattle.ms_server.specs.Visits.{around}
