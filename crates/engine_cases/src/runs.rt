@@ -37,8 +37,8 @@ impl Answers for Runs {
     }
 }
 
-// Takes what these words tell.
-fn go_on(alloc: Global, store: Store, words: &str, said: &mut String) -> Result<Store, Unable> {
+/// Takes what these words tell.
+pub fn go_on(alloc: Global, store: Store, words: &str, said: &mut String) -> Result<Store, Unable> {
     let (word, rest) = words_of(words);
     match word {
         "old" => open_again(alloc, store, CrashPick::Old, said),
