@@ -20,7 +20,8 @@ use table_cases::{Answers, Unable};
 pub struct Runs;
 
 /// The five changes that make events 1 to 5 of the worked rows: a database `w` with three tables.
-const BASE: &str = "create_database w; create_table w a k; add_partitions w a 65; create_table w b -; create_table w c -";
+const BASE: &str =
+    "create_database w; create_table w a k; add_partitions w a 65; create_table w b -; create_table w c -";
 
 impl Answers for Runs {
     fn answer(&self, alloc: Global, input: &str) -> Result<String, Unable> {
@@ -88,7 +89,12 @@ fn take_base(alloc: Global, mut store: Store, said: &mut String) -> Result<Store
 }
 
 // Takes one call so many times, by the words `COUNT CALL`.
-fn repeat(alloc: Global, mut store: Store, words: &str, said: &mut String) -> Result<Store, Unable> {
+fn repeat(
+    alloc: Global,
+    mut store: Store,
+    words: &str,
+    said: &mut String,
+) -> Result<Store, Unable> {
     let (count, call) = words_of(words);
     let count = number_of(count)?;
     write!(said, "{count} times")?;

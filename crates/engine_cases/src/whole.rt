@@ -39,7 +39,12 @@ impl Answers for WholeDumps {
 }
 
 // Takes these steps, and tells their answers.
-fn take_all(alloc: Global, mut store: Store, steps: &str, said: &mut String) -> Result<Store, Unable> {
+fn take_all(
+    alloc: Global,
+    mut store: Store,
+    steps: &str,
+    said: &mut String,
+) -> Result<Store, Unable> {
     if steps == "-" {
         return Ok(store);
     }
@@ -122,9 +127,22 @@ fn tell_dump(
 }
 
 // Tells how many files, items and events are read of a dump.
-fn tell_read(alloc: Global, folder: &mut MemFolder, dir: &Text, said: &mut String) -> Result<(), Unable> {
+fn tell_read(
+    alloc: Global,
+    folder: &mut MemFolder,
+    dir: &Text,
+    said: &mut String,
+) -> Result<(), Unable> {
     let read = read_dump(alloc, folder, dir.as_str()).or(Err(Unable::Form))?;
-    let (files, items, events) = (read.manifest.files.len(), read.items.len(), read.events.len());
-    write!(said, "{files} files, {items} items, {events} events, {} to {}", read.manifest.begin, read.manifest.end)?;
+    let (files, items, events) = (
+        read.manifest.files.len(),
+        read.items.len(),
+        read.events.len(),
+    );
+    write!(
+        said,
+        "{files} files, {items} items, {events} events, {} to {}",
+        read.manifest.begin, read.manifest.end
+    )?;
     Ok(())
 }

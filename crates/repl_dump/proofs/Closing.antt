@@ -45,8 +45,10 @@ adds_ended P R alone me you number start later old mid new given fault caller sa
   where
     ending : Entry
     ending = entry_of you (DumpEnd number) given fault
+
     Q : List Entry → Type 0
     Q xs = (xs ≡ ending ∷ []) × EndsDump number ending
+
     ended : given ≡ answer.Ended
     ended = ended_so you number start (mid ++ turns.0) given fault (subst (λ (l : List Entry). Legal start l) turns.2 (subst (λ (s : Start). Legal s new) same legal)) (takes_others any_kind you number start mid turns.0 turns.1 takes)
 
@@ -79,10 +81,11 @@ adds_dump alone me you old mid new db asked name from to limit began given fault
     adds_both alone me old mid new Only (EndsSo name began result before after) (Dumps (record { db = db; from = from; to = to; limit = limit }) result before after)
     (adds_one alone me old mid turns.0 first Only refl turns.1 turns.2 sole refl) (adds_as alone you me mid new (EndsSo name began result before after) caller ends)
     (λ xs ys one rest. subst (λ (l : List Entry). Dumps (record { db = db; from = from; to = to; limit = limit }) result before after (l ++ ys)) (sym one)
-      (dumps_whole (record { db = db; from = from; to = to; limit = limit }) began first result before after ys (same_step db asked from to limit is) told (subst (λ (n : List ℕ). EndsSo n began result before after ys) named rest)))
+    (dumps_whole (record { db = db; from = from; to = to; limit = limit }) began first result before after ys (same_step db asked from to limit is) told (subst (λ (n : List ℕ). EndsSo n began result before after ys) named rest)))
   where
     first : Entry
     first = first_entry me asked from to limit given fault
+
     Only : List Entry → Type 0
     Only xs = xs ≡ first ∷ []
 

@@ -152,10 +152,11 @@ broken_off began failed own ending old new stopped ends others = record {
 
 pub ends_stopped : (db : List ℕ) (began : Began) (failed : Failure) (own : List Entry) (ending : Entry) (old new : Option Files) → Stopped began.dump began.begin (place_begun began.begin began.first) failed own → Ends began ending
     → Leads (StaysBy failed (dir_of began)) old new → EndsSo db began (failed_answer failed) old new (own ++ ending ∷ [])
-ends_stopped db began (failure.Refused refusal) own ending old new stopped ends others =
-    (broken_off began (failure.Refused refusal) own ending old new stopped ends others,
-     subst (λ (l : List Entry). SomeTold (answer.DumpRefused refusal) l) (sym (ap (λ (l : List Entry). l ++ ending ∷ []) stopped.is ∙ append_assoc stopped.walked stopped.failed (ending ∷ [])))
-     (told_behind (answer.DumpRefused refusal) stopped.walked (stopped.failed ++ ending ∷ []) (told_there refusal stopped.failed (ending ∷ []) stopped.told)))
+ends_stopped db began (failure.Refused refusal) own ending old new stopped ends others = (
+  broken_off began (failure.Refused refusal) own ending old new stopped ends others,
+  subst (λ (l : List Entry). SomeTold (answer.DumpRefused refusal) l) (sym (ap (λ (l : List Entry). l ++ ending ∷ []) stopped.is ∙ append_assoc stopped.walked stopped.failed (ending ∷ [])))
+      (told_behind (answer.DumpRefused refusal) stopped.walked (stopped.failed ++ ending ∷ []) (told_there refusal stopped.failed (ending ∷ []) stopped.told)),
+)
 ends_stopped db began failure.FolderFault own ending old new stopped ends others = broken_off began failure.FolderFault own ending old new stopped ends others
 ends_stopped db began failure.NoMemory own ending old new stopped ends others = broken_off began failure.NoMemory own ending old new stopped ends others
 
@@ -193,14 +194,32 @@ same_end end answers = end_more end answers answer.Ended
 text_is : (db : List ℕ) (began : Began) (answers : List Answer) → dump_text (begun_of db began) (answers ++ answer.Ended ∷ [])
     ≡ map (at_path (dir_of began)) (files_told (began_answer began ∷ answers)) ++ (path_in (dir_of began) (codes "manifest"), manifest_code (manifest_told (begun_of db began) answers)) ∷ []
 text_is db began answers =
-    ap (λ (l : Files). map (at_path (dir_of began)) (l ++ (codes "manifest", manifest_code (record {
-      source = began.source; db = db; dump = began.dump; bootstrap = (manifest_told (begun_of db began) answers).bootstrap; begin = began.begin;
-      end = end_told began.end (answers ++ answer.Ended ∷ []); born = began.born; files = map line_of l;
-    })) ∷ [])) (same_files (began_answer began ∷ answers))
-    ∙ (ap (λ (n : ℕ). map (at_path (dir_of began)) (files_told (began_answer began ∷ answers) ++ (codes "manifest", manifest_code (record {
-      source = began.source; db = db; dump = began.dump; bootstrap = (manifest_told (begun_of db began) answers).bootstrap; begin = began.begin;
-      end = n; born = began.born; files = map line_of (files_told (began_answer began ∷ answers));
-    })) ∷ [])) (same_end began.end answers)
+    ap (λ (l : Files). map (at_path (dir_of began)) (l ++ (
+      codes "manifest",
+      manifest_code (record {
+        source = began.source;
+        db = db;
+        dump = began.dump;
+        bootstrap = (manifest_told (begun_of db began) answers).bootstrap;
+        begin = began.begin;
+        end = end_told began.end (answers ++ answer.Ended ∷ []);
+        born = began.born;
+        files = map line_of l;
+      }),
+    ) ∷ [])) (same_files (began_answer began ∷ answers))
+    ∙ (ap (λ (n : ℕ). map (at_path (dir_of began)) (files_told (began_answer began ∷ answers) ++ (
+      codes "manifest",
+      manifest_code (record {
+        source = began.source;
+        db = db;
+        dump = began.dump;
+        bootstrap = (manifest_told (begun_of db began) answers).bootstrap;
+        begin = began.begin;
+        end = n;
+        born = began.born;
+        files = map line_of (files_told (began_answer began ∷ answers));
+      }),
+    ) ∷ [])) (same_end began.end answers)
     ∙ map-append (at_path (dir_of began)) (files_told (began_answer began ∷ answers)) ((codes "manifest", manifest_code (manifest_told (begun_of db began) answers)) ∷ []))
 
 -- the second letter
@@ -234,9 +253,9 @@ ends_done db beginning own ending writer first between last ends goes stands put
   text = subst (λ (l : List Answer). Leads (Gained (dump_text (begun_of db began) l)) first last) (sym (with_end own ending ends.1))
       (subst (λ (l : Files). Leads (Gained l) first last) (sym (text_is db began (answers_of own)))
       (grown (map (at_path (dir_of began)) (files_told (began_answer began ∷ answers_of own))) first between last (path_in (dir_of began) (codes "manifest")) (manifest_code (manifest_told (begun_of db began) (answers_of own)))
-        (manifest_is_new (dir_of began) (item_texts (began_answer began ∷ answers_of own)) (event_texts (began_answer began ∷ answers_of own))) stands.text
-        (subst (λ m. Leads (Gained ((path_in (dir_of began) (codes "manifest"), manifest_code m) ∷ [])) between last) (manifest_is db beginning (answers_of own) writer stands.written)
-        (subst (λ (d : List ℕ). Leads (Gained ((path_in d (codes "manifest"), manifest_code (manifest_of db beginning writer)) ∷ [])) between last) stands.written.dir_is put))));
+      (manifest_is_new (dir_of began) (item_texts (began_answer began ∷ answers_of own)) (event_texts (began_answer began ∷ answers_of own))) stands.text
+      (subst (λ m. Leads (Gained ((path_in (dir_of began) (codes "manifest"), manifest_code m) ∷ [])) between last) (manifest_is db beginning (answers_of own) writer stands.written)
+      (subst (λ (d : List ℕ). Leads (Gained ((path_in d (codes "manifest"), manifest_code (manifest_of db beginning writer)) ∷ [])) between last) stands.written.dir_is put))));
 }
   where
     began : Began
@@ -257,12 +276,15 @@ manifest_stays {T} result outage failed dir path bytes before after p own cause 
     torn None new h = tt
     torn (Some f) None h = h
     torn (Some f) (Some g) h = λ name apart. h name (λ q. apart (codes "manifest") (q ∙ p))
+
     same : (old new : Option Files) → Leads Same old new → Leads (OthersStay dir) old new
     same None new h = tt
     same (Some f) None h = h
     same (Some f) (Some g) h = λ name apart. ap (λ (files : Files). file files name) h
+
     apart : outages.NoMemory ≡ outages.Failed → ⊥
     apart q = absurd cc
+
     by : (f : Failure) → IsOwn f → (f ≡ failure.FolderFault → outage ≡ outages.Failed) → (f ≡ failure.NoMemory → outage ≡ outages.NoMemory) → (o : Outage) → Puts {T = T} before after path bytes (Err o) → o ≡ outage → Leads (StaysBy f dir) before after
     by (failure.Refused refusal) mine c m o h q = absurd mine
     by failure.FolderFault mine c m outages.Failed h q = torn before after h
@@ -272,8 +294,15 @@ manifest_stays {T} result outage failed dir path bytes before after p own cause 
 
 -- the manifest as it is put is that of what was written
 pub code_is : (db made : List ℕ) (whole : Bool) (beginning : Beginning) (writer : Writer) → made ≡ db → whole ≡ is_some beginning.first → manifest_code (record {
-    source = beginning.source; db = made; dump = beginning.dump; bootstrap = whole; begin = beginning.begin; end = writer.end; born = beginning.born; files = writer.files;
-  }) ≡ manifest_code (manifest_of db beginning writer)
+  source = beginning.source;
+  db = made;
+  dump = beginning.dump;
+  bootstrap = whole;
+  begin = beginning.begin;
+  end = writer.end;
+  born = beginning.born;
+  files = writer.files;
+}) ≡ manifest_code (manifest_of db beginning writer)
 code_is db made whole beginning writer name kind =
     ap (λ (d : List ℕ). manifest_code (record { source = beginning.source; db = d; dump = beginning.dump; bootstrap = whole; begin = beginning.begin; end = writer.end; born = beginning.born; files = writer.files })) name
     ∙ ap (λ (b : Bool). manifest_code (record { source = beginning.source; db = db; dump = beginning.dump; bootstrap = b; begin = beginning.begin; end = writer.end; born = beginning.born; files = writer.files })) kind

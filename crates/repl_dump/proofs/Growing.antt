@@ -98,5 +98,5 @@ pub text_more : (dir : List ℕ) (end : ℕ) (answers : List Answer) (given : An
 text_more dir end answers given old new first before after was told one fits too so_far =
     let next : Goes (Gained (map (at_path dir) (files_next old given))) before after = subst (λ d. Goes (Gained (map (at_path d) (files_next old given))) before after) was.dir_is told.text in
     let all : Goes (Gained (files_of dir (item_texts answers) (event_texts answers) ++ map (at_path dir) (files_next old given))) first after =
-        grown_by dir (item_texts answers) (event_texts answers) (item_texts (given ∷ [])) (event_texts (given ∷ [])) old.items old.events first before after was.items was.events fits too (one_at_most given) so_far next in
+    grown_by dir (item_texts answers) (event_texts answers) (item_texts (given ∷ [])) (event_texts (given ∷ [])) old.items old.events first before after was.items was.events fits too (one_at_most given) so_far next in
     subst (λ (l : Files). Goes (Gained l) first after) (sym (map-append (at_path dir) (files_told answers) (files_next old given)) ∙ ap (λ (l : Files). map (at_path dir) l) (told_all answers given old was.items was.events one)) all

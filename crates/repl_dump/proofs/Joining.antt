@@ -41,6 +41,7 @@ answers_begin s before me after db from to limit given may = by given may
   where
     fits : AnswersBegin (due_answer s me (DumpBegin db from to limit))
     fits = begin_fits s.id (beginning s me db (asked_for from to limit))
+
     by : (a : Answer) → MayAnswer s before me (DumpBegin db from to limit) a after → AnswersBegin a
     by (answer.Reply reply) m = subst AnswersBegin (sym m) fits
     by (answer.Began dump source born begin end first) m = tt
@@ -90,11 +91,12 @@ opened_begun s me db asked began told = by (refused_dump s db asked) (database s
     by None (Some held) is =
         let dump : OpenDump = begun me (lower db) held.born s.newest s.last_dump asked in
         let number : began.dump ≡ dump.number = cc in
-        let first : began.first ≡ first_item (kind_of asked.from) s.newest held = cc in
-        (dump,
-         subst (λ (n : ℕ). open_dump me n (without_dump me dump.number s.dumps ++ dump ∷ []) ≡ Some dump) (sym number)
-            (begun_found me dump.number dump s.dumps (ap (λ (b : Bool). b && (dump.number == dump.number)) (eq-eqb me me refl) ∙ eq-eqb dump.number dump.number refl)),
-         first_allowed s.newest began.begin asked.from held began.first first)
+        let first : began.first ≡ first_item (kind_of asked.from) s.newest held = cc in (
+          dump,
+          subst (λ (n : ℕ). open_dump me n (without_dump me dump.number s.dumps ++ dump ∷ []) ≡ Some dump) (sym number)
+              (begun_found me dump.number dump s.dumps (ap (λ (b : Bool). b && (dump.number == dump.number)) (eq-eqb me me refl) ∙ eq-eqb dump.number dump.number refl)),
+          first_allowed s.newest began.begin asked.from held began.first first,
+        )
 
 pub begun_takes : (me : ℕ) (start : Start) (before : List Entry) (wanted : Wanted) (began : Began) (given : Answer) (fault : ℕ) → given ≡ began_answer began → Legal start (before ++ entry_of me (begin_step wanted) given fault ∷ [])
     → Takes (allows (place_begun began.begin began.first)) me began.dump start (before ++ entry_of me (begin_step wanted) given fault ∷ [])
@@ -173,6 +175,7 @@ dumps_unbegun wanted first (dumped.Refused refusal) files step told = (none_begu
   where
     refused_apart : (r : DumpRefusal) (b : Began) → answer.DumpRefused r ≡ began_answer b → ⊥
     refused_apart r b q = absurd cc
+
     closed : (r : DumpRefusal) → answer.DumpRefused r ≡ answer.NotOpen → ⊥
     closed r q = absurd cc
 dumps_unbegun wanted first dumped.FolderFault files step told = absurd told
@@ -180,11 +183,13 @@ dumps_unbegun wanted first dumped.StoreFault files step told = (none_begun Other
   where
     fault_apart : (b : Began) → answer.StoreFault ≡ began_answer b → ⊥
     fault_apart b q = absurd cc
+
     closed : answer.StoreFault ≡ answer.NotOpen → ⊥
     closed q = absurd cc
 dumps_unbegun wanted first dumped.NoMemory files step told = inr (none_begun OthersStay wanted first files step (λ began is. absurd (memory_apart began (sym told ∙ is))) (λ q. closed (sym told ∙ q)))
   where
     memory_apart : (b : Began) → answer.NoMemory ≡ began_answer b → ⊥
     memory_apart b q = absurd cc
+
     closed : answer.NoMemory ≡ answer.NotOpen → ⊥
     closed q = absurd cc

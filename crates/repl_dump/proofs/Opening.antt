@@ -37,6 +37,7 @@ open_sealed s me number given dump is = by_test (is_refused given)
     due_open : (b : Bool) → (after : OpenDump) × (open_dump me number (cond b (with_sealed me number s.newest s.dumps) s.dumps) ≡ Some after)
     due_open true = (sealed_at s.newest dump, sealed_found me number s.newest s.dumps dump is)
     due_open false = (dump, is)
+
     by_test : (r : Bool) → (after : OpenDump) × (open_dump me number (cond {A = State} r s (due s me (DumpSeal number)).state).dumps ≡ Some after)
     by_test true = (dump, is)
     by_test false = due_open (is_taken_in (open_dump me number s.dumps) takes_objects s.catalogue)

@@ -76,9 +76,11 @@ gained_more texts old mid new name bytes before one apart = record {
   where
     not_one : (other : List ℕ) → (IsAmong other (texts ++ (name, bytes) ∷ []) → ⊥) → IsAmong other ((name, bytes) ∷ []) → ⊥
     not_one other unlike is = unlike (among_back other texts ((name, bytes) ∷ []) is)
+
     differs : (other : List ℕ) → (name ≡ other → ⊥) → IsAmong other ((name, bytes) ∷ []) → ⊥
     differs other unlike (inl is) = unlike (sym is)
     differs other unlike (inr is) = is
+
     kept : (ts : Files) → (IsAmong name ts → ⊥) → AllByRecursion (λ entry. file mid entry.0 ≡ Some entry.1) ts → AllByRecursion (λ entry. file new entry.0 ≡ Some entry.1) (ts ++ (name, bytes) ∷ [])
     kept [] unlike all = one.each
     kept (t ∷ ts) unlike all = (one.others t.0 (differs t.0 (λ q. unlike (inl q))) ∙ all.0, kept ts (λ is. unlike (inr is)) all.1)

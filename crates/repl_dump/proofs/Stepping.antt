@@ -93,6 +93,7 @@ in_order begin (walk.parts table born after) to given answers came was = (subst 
   where
     none : event_texts (answers ++ given ∷ []) ≡ []
     none = none_more answers given was (ap (λ (g : Answer). event_texts (g ∷ [])) came.is)
+
     either : (more : Bool) → IsInOrder (cond more (walk.parts table born (walk.last_values after came.items)) (walk.tables (Some table))) (answers ++ given ∷ [])
     either true = none
     either false = none

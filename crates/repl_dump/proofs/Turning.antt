@@ -94,7 +94,7 @@ is_sealed s me number end dump told is allowed =
     ap (λ (o : Option OpenDump). is_taken_in o takes_objects s.catalogue) is
     ∙ (ap (λ b. b && is_born dump.born (database s.catalogue dump.db)) allowed
     ∙ by_test (is_born dump.born (database s.catalogue dump.db)) (told ∙ (ap (λ (o : Option OpenDump). answered_in o takes_objects s.catalogue (λ opened. answer.Sealed s.newest)) is
-        ∙ ap (λ b. cond b (cond (is_born dump.born (database s.catalogue dump.db)) (answer.Sealed s.newest) (answer.DumpRefused (DatabaseGone dump.born))) answer.NotOpen) allowed)))
+    ∙ ap (λ b. cond b (cond (is_born dump.born (database s.catalogue dump.db)) (answer.Sealed s.newest) (answer.DumpRefused (DatabaseGone dump.born))) answer.NotOpen) allowed)))
   where
     by_test : (b : Bool) → answer.Sealed end ≡ cond b (answer.Sealed s.newest) (answer.DumpRefused (DatabaseGone dump.born)) → (true && b) ≡ true
     by_test true told = refl
@@ -121,8 +121,10 @@ next_takes (at.Tables cursor) to me number begin start before step given fault u
   where
     same : DumpTable number cursor ≡ step
     same = cc
+
     still : Takes takes_objects me number start (before ++ entry_of me step given fault ∷ [])
     still = takes_same takes_objects me number start before step given fault (leaves_as (state_after start before) me (DumpTable number cursor) step same refl) takes
+
     by : walk.AfterTable given (place_of to) → Takes (allows (place_of to)) me number start (before ++ entry_of me step given fault ∷ [])
     by (inl came) = subst (λ (p : Place). Takes (allows p) me number start (before ++ entry_of me step given fault ∷ [])) (sym came.next) still
     by (inr gone) = subst (λ (p : Place). Takes (allows p) me number start (before ++ entry_of me step given fault ∷ [])) (sym gone.1) still
@@ -131,8 +133,10 @@ next_takes (at.Parts table born cursor) to me number begin start before step giv
   where
     same : DumpParts number table born cursor ≡ step
     same = cc
+
     still : Takes takes_objects me number start (before ++ entry_of me step given fault ∷ [])
     still = takes_same takes_objects me number start before step given fault (leaves_as (state_after start before) me (DumpParts number table born cursor) step same refl) takes
+
     either : (more : Bool) → Takes (allows (cond more (walk.parts table born (walk.last_values cursor moves.items)) (walk.tables (Some table)))) me number start (before ++ entry_of me step given fault ∷ [])
     either true = still
     either false = still
@@ -144,6 +148,7 @@ next_takes at.Seal to me number begin start before step given fault unlike is le
   where
     same : DumpSeal number ≡ step
     same = cc
+
     may : MayAnswer (state_after start before) 0 me (DumpSeal number) (answer.Sealed moves.number) fault
     may = subst (λ (a : Answer). MayAnswer (state_after start before) (point_after (point_of start) (map took before)).fault me (DumpSeal number) a fault) moves.is
         (subst (λ (st : Step). MayAnswer (state_after start before) (point_after (point_of start) (map took before)).fault me st given fault) (sym same) (last_follows (point_of start) before (entry_of me step given fault) legal).1)
@@ -152,8 +157,10 @@ next_takes (at.Events cursor) to me number begin start before step given fault u
   where
     same : DumpEvents number cursor ≡ step
     same = cc
+
     still : Takes takes_events me number start (before ++ entry_of me step given fault ∷ [])
     still = takes_same takes_events me number start before step given fault (leaves_as (state_after start before) me (DumpEvents number cursor) step same refl) takes
+
     either : (more : Bool) → Takes (allows (cond more (walk.events (walk.last_number cursor moves.found)) walk.end)) me number start (before ++ entry_of me step given fault ∷ [])
     either true = still
     either false = any_of takes_events me number start _ still

@@ -253,7 +253,12 @@ fn part_values(item: Item) -> Texts
 }
 
 // The dump was sealed.
-fn seal_came<F: Folder>(folder: &mut F, writer: &mut Writer, begin: u64, answer: Answer) -> Result<Place, Failure>
+fn seal_came<F: Folder>(
+    folder: &mut F,
+    writer: &mut Writer,
+    begin: u64,
+    answer: Answer,
+) -> Result<Place, Failure>
     requires { FitsSeal answer }
     ensures folder { folder.new ≡ folder.old }
     ensures own { IsErrOf result Failure.FolderFault → ⊥ }

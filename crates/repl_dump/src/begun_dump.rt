@@ -82,7 +82,15 @@ fn write_files<K: Desk, F: Folder>(
         Ok(begun) => begun,
         Err(failure) => return Err(failure),
     };
-    match walk(alloc, desk, folder, &mut writer, beginning.dump, beginning.begin, place) {
+    match walk(
+        alloc,
+        desk,
+        folder,
+        &mut writer,
+        beginning.dump,
+        beginning.begin,
+        place,
+    ) {
         Ok(()) => Ok(writer),
         Err(failure) => Err(failure),
     }
@@ -132,7 +140,10 @@ fn write_manifest<F: Folder>(
     ensures put { OnOk result (Goes (Gained ((path_in writer.dir (codes "manifest"), manifest_code (manifest_of db.now beginning.now writer)) ∷ [])) (F.files folder.old) (F.files folder.new)) }
 {
     let Writer {
-        dir, end, files, ..
+        dir,
+        end,
+        files,
+        ..
     } = writer;
     let Ok(db) = db.copy(alloc) else {
         return Err(Failure::NoMemory);
@@ -147,7 +158,10 @@ fn write_manifest<F: Folder>(
         born: beginning.born,
         files,
     };
-    let (Ok(text), Ok(path)) = (manifest_text(alloc, &manifest), path_in(alloc, &dir, "manifest")) else {
+    let (Ok(text), Ok(path)) = (
+        manifest_text(alloc, &manifest),
+        path_in(alloc, &dir, "manifest"),
+    ) else {
         return Err(Failure::NoMemory);
     };
     match folder.put(path.as_str(), text.as_slice()) {

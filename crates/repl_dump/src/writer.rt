@@ -99,13 +99,7 @@ impl Writer {
     }
 
     // Adds the line of a file, with which there are so many of its kind.
-    fn add(
-        &mut self,
-        kind: FileKind,
-        name: Text,
-        count: u64,
-        bytes: &[u8],
-    ) -> Result<(), NoMemory>
+    fn add(&mut self, kind: FileKind, name: Text, count: u64, bytes: &[u8]) -> Result<(), NoMemory>
         requires { count ≡ written_of kind self.old + 1 }
         ensures dir { OnOk result (self.new.dir ≡ self.old.dir) }
         ensures end { OnOk result (self.new.end ≡ self.old.end) }

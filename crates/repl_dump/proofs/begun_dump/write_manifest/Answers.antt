@@ -5,7 +5,7 @@ use Rattle.repl_dump.proofs.Ending.{code_is, manifest_put, manifest_stays}
 use Rattle.repl_dump.proofs.begun_dump.write_manifest.Goals as goal
 
 pub returns-in-Ok-put-clause-put : goal.returns-in-Ok-put-clause-put
-returns-in-Ok-put-clause-put g c = 
+returns-in-Ok-put-clause-put g c =
     manifest_put c.args.writer.dir (manifest_code (manifest_of c.args.db.now c.args.beginning.now c.args.writer)) _ _ _ _ (c.as_str.ensures.bytes ∙ c.in-Ok-Ok.ensures')
     (c.as_slice.ensures.items ∙ (c.in-Ok-Ok.ensures ∙ code_is c.args.db.now c.in-Ok.db c.is_some.result c.args.beginning.now c.args.writer c.in-Ok.ensures c.is_some.ensures)) c.in-Ok-put.ensures.files
 
