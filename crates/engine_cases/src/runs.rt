@@ -28,11 +28,11 @@ impl Answers for Runs {
         let (fails, steps) = input.split_once(" | ").ok_or(Unable::Form)?;
         let mut store = new_store(alloc, fails)?;
         let mut said = String::new(alloc);
-        let mut between = "";
         for words in steps.split("; ") {
-            said.push_str(between)?;
+            if !said.is_empty() {
+                said.push_str(" | ")?;
+            }
             store = go_on(alloc, store, words, &mut said)?;
-            between = " | ";
         }
         Ok(said)
     }
