@@ -60,4 +60,3 @@ pub record Unopened (old new : Outside) (status : ℕ) : Type 0 where
   pub none : NoStore fault old new status
   pub outage : (p : Point) → IsKept p old.disk_a.lies → IsOutage fault
   pub kept : (p : Point) → IsKept p old.disk_a.lies → StaysKept p old.disk_a new.disk_a
-

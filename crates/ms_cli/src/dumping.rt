@@ -89,7 +89,15 @@ fn dump_named<K: Desk, F: Folder>(
     ensures dumped { Adds K.alone (K.caller desk.old) (K.history desk.old) (K.history desk.new) (λ own. DumpedTo (wanted_of db.now range) result own (shelf_of (F.files folder.old) (F.faults folder.old)) (shelf_of (F.files folder.new) (F.faults folder.new))) }
 {
     match Text::of(alloc, db) {
-        Ok(name) => repl_dump::dump(alloc, desk, folder, &name, range.from, range.to, range.limit),
+        Ok(name) => repl_dump::dump(
+            alloc,
+            desk,
+            folder,
+            &name,
+            range.from,
+            range.to,
+            range.limit,
+        ),
         Err(_) => DumpAnswer::NoMemory,
     }
 }
@@ -109,7 +117,12 @@ fn tell_dump<K: Sink, E: Sink>(
     match answer {
         DumpAnswer::Done { dir, last } => {
             let dir = dir.as_str();
-            say_done(alloc, output, errors, format!(in alloc; "dump {dir} {last}\n"))
+            say_done(
+                alloc,
+                output,
+                errors,
+                format!(in alloc; "dump {dir} {last}\n"),
+            )
         }
         DumpAnswer::Refused(refusal) => {
             let _ = tell_refused_dump(alloc, errors, refusal);

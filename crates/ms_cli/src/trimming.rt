@@ -65,12 +65,7 @@ fn trim_at<K: Sink, E: Sink, D: Disk>(
 }
 
 // Tells how a trim was answered, and returns the status.
-fn tell_trim<K: Sink, E: Sink>(
-    alloc: Global,
-    output: &mut K,
-    errors: &mut E,
-    answer: Answer,
-) -> u8
+fn tell_trim<K: Sink, E: Sink>(alloc: Global, output: &mut K, errors: &mut E, answer: Answer) -> u8
     requires { AnswersTrim answer }
     ensures told { TellsTrim answer (K.held output.old) (K.held output.new) (record { held = E.held errors.old; faults = E.faults errors.old }) (record { held = E.held errors.new; faults = E.faults errors.new }) result }
     ensures others { (result ≢ 2) × (result ≢ 3) }

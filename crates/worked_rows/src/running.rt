@@ -2,9 +2,7 @@
 
 use crate::disks::disk_of;
 use cat_values::Bytes;
-use hms_outside::{
-    Clock, Folder, MemClock, MemDisk, MemFolder, MemSink, MemSource, Sink, Source,
-};
+use hms_outside::{Clock, Folder, MemClock, MemDisk, MemFolder, MemSink, MemSource, Sink, Source};
 use ms_cli::{LocalEnd, run_local};
 use std::alloc::{AllocError, Global};
 use table_cases::{Unable, bytes_of};
