@@ -62,7 +62,7 @@ impl<'a> Site<'a> {
         &self,
         alloc: Global,
         values: StoredValues<'_>,
-        old: &PartRec,
+        old: &Shared<PartRec>,
         rec: &PartRec,
         moment: u64,
     ) -> Result<Change, NoMemory>
@@ -86,7 +86,7 @@ impl<'a> Site<'a> {
         alloc: Global,
         values: StoredValues<'_>,
         to: StoredValues<'_>,
-        old: &PartRec,
+        old: &Shared<PartRec>,
         rec: &PartRec,
         moment: u64,
     ) -> Result<Change, NoMemory>

@@ -1,7 +1,8 @@
-use Rattle.std.proofs.Common.{◌≡◌, Some, false, rules}
+use Rattle.std.proofs.Common.{◌≡◌, ◌∙◌, Some, false, ap, sym, rules}
+use Rattle.cat_values.specs.declared.records.TableRec.{TableRec}
 use Rattle.cat_objects.specs.Catalogue.{at_name, database}
 use Rattle.rulings.specs.Bars.{is_replica}
-use Rattle.rulings.specs.Meant.{meaning, seen_values}
+use Rattle.rulings.specs.Meant.{may_mean, meaning, seen_values}
 use Rattle.part_rules.proofs.AddingHere.{appended_here}
 use Rattle.part_rules.proofs.part_adds.append_meant.Goals as goal
 
@@ -12,4 +13,4 @@ returns-in-Ok-Some c =
     let inside : at_name c.args.name.now c.in-Some.within.now.tables ≡ Some c.in-Some-get.held.now = search rules in
     let both = rw c.in-Ok-Some.field-0-is at c.in-Ok-Some.ensures in
     appended_here c.args.cat.now c.args.bars.now c.args.db.now c.args.name.now c.in-Some.within.now c.in-Some-get.held.now there free inside (meaning c.args.meant.now) (seen_values c.in-Ok-Some.values) c.args.moment c.append.result
-    both.0 both.1 c.append.ensures
+    (ap (λ (rec : TableRec). may_mean rec.keys (meaning c.args.meant.now)) (sym c.deref.ensures) ∙ both.0) both.1 c.append.ensures

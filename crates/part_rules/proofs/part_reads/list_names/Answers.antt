@@ -1,6 +1,7 @@
 use Rattle.std.proofs.Common.{SFits, ◌≡◌, ◌++◌, ◌∷◌, [], ◌∙◌, true, false, length, rules, ap, subst, sym, refl, ℤ, to_z, of_z}
 use Rattle.std.proofs.lemmas.Int.{to_z-of_z}
 use Rattle.std.specs.Int.{w16}
+use Rattle.cat_values.specs.declared.records.TableRec.{TableRec}
 use Rattle.cat_objects.specs.Parts.{parts_from}
 use Rattle.part_names.specs.Making.{part_name}
 use Rattle.part_rules.proofs.Listing.{told_name}
@@ -32,7 +33,7 @@ loop-values-preserved-in_ok-push c =
     let fits : SFits w16 c.args.max = search rules in
     let not_yet : has_reached c.args.max (length c.loop-values.names) ≡ false = search rules in
     let passes : begin_with c.args.wanted.now c.in-Some.values.now ≡ true = search rules in
-    let pushed : c.push.new.self ≡ c.loop-values.names ++ part_name (key_names c.args.held.now.rec.keys) c.in-Some.values.now ∷ [] = c.in_ok-push.ensures.ok ∙ ap (λ n. c.loop-values.names ++ n ∷ []) (c.in_ok-join_name.ensures ∙ ap (λ ks. part_name ks c.in-Some.values.now) c.in_ok-keys.ensures) in
+    let pushed : c.push.new.self ≡ c.loop-values.names ++ part_name (key_names c.args.held.now.rec.keys) c.in-Some.values.now ∷ [] = c.in_ok-push.ensures.ok ∙ ap (λ n. c.loop-values.names ++ n ∷ []) (c.in_ok-join_name.ensures ∙ ap (λ ks. part_name ks c.in-Some.values.now) (c.in_ok-keys.ensures ∙ ap (λ (rec : TableRec). key_names rec.keys) c.deref.ensures)) in
     record {
       told = told_name c.args.held.now.rec.keys c.args.wanted.now c.args.max _ c.loop-values.names c.push.new.self _ c.in-Some.values.now c.in-Some.field-0-1.now c.loop-values.values-iterator c.next.new.self
           (to_z-of_z w16 c.args.max fits) c.loop-values.invariant.told c.in-Some.ensures.steps not_yet passes pushed;
