@@ -7,7 +7,8 @@ use hms_outside::{MemDisk, MemFolder};
 use ms_server::FreeGate;
 use server_cli::{ServerEnd, run_server};
 use std::alloc::Global;
-use std::rt::{Threads, Wait};
+use std::sync::Wait;
+use std::thread::Threads;
 
 #[test]
 fn two_connections_run_beside_one_another(rt: HostRuntime) {
