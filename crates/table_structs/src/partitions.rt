@@ -141,15 +141,29 @@ impl ToWire for PartitionFields {
     ghost tree = { partition_tree };
 
     fn write(writer: &mut WireWriter, value: &NamedPart) -> Result<(), NoMemory> {
-        put_field::<Texts>(writer, 1, &value.values)?;
-        put_field::<Text>(writer, 2, &value.db)?;
-        put_field::<Text>(writer, 3, &value.table)?;
-        put_field::<i32>(writer, 4, &value.rec.created)?;
-        put_field::<i32>(writer, 5, &value.rec.accessed)?;
-        put_optional::<StorageFields>(writer, 6, &value.rec.sd)?;
-        put_field::<Params>(writer, 7, &value.rec.params)?;
-        writer.stop()
+        write_named(writer, &value.db, &value.table, &value.values, &value.rec)
     }
+}
+
+// Writes a partition of these names and values. All fields of its record are read through one reference
+// to it.
+fn write_named(
+    writer: &mut WireWriter,
+    db: &Text,
+    table: &Text,
+    values: &Texts,
+    rec: &PartRec,
+) -> Result<(), NoMemory>
+    ensures { Gathers writer.old writer.new result (wire_bytes struct_code (partition_tree (record { db = db.now; table = table.now; values = values.now; rec = rec.now }))) }
+{
+    put_field::<Texts>(writer, 1, values)?;
+    put_field::<Text>(writer, 2, db)?;
+    put_field::<Text>(writer, 3, table)?;
+    put_field::<i32>(writer, 4, &rec.created)?;
+    put_field::<i32>(writer, 5, &rec.accessed)?;
+    put_optional::<StorageFields>(writer, 6, &rec.sd)?;
+    put_field::<Params>(writer, 7, &rec.params)?;
+    writer.stop()
 }
 
 /// Reads a Partition. Absent names and an absent `sd` stay absent, absent numbers are 0, and the absent

@@ -187,20 +187,32 @@ impl ToWire for TableFields {
     ghost tree = { table_tree };
 
     fn write(writer: &mut WireWriter, value: &NamedTable) -> Result<(), NoMemory> {
-        put_field::<Text>(writer, 1, &value.table)?;
-        put_field::<Text>(writer, 2, &value.db)?;
-        put_optional::<Text>(writer, 3, &value.rec.owner)?;
-        put_field::<i32>(writer, 4, &value.rec.created)?;
-        put_field::<i32>(writer, 5, &value.rec.accessed)?;
-        put_field::<i32>(writer, 6, &value.rec.retention)?;
-        put_field::<StorageFields>(writer, 7, &value.rec.sd)?;
-        put_field::<ListOf<ColumnFields>>(writer, 8, &value.rec.keys)?;
-        put_field::<Params>(writer, 9, &value.rec.params)?;
-        put_optional::<Text>(writer, 10, &value.rec.view_original)?;
-        put_optional::<Text>(writer, 11, &value.rec.view_expanded)?;
-        put_optional::<Text>(writer, 12, &value.rec.kind)?;
-        writer.stop()
+        write_named(writer, &value.db, &value.table, &value.rec)
     }
+}
+
+// Writes a table of these names. All fields of its record are read through one reference to it.
+fn write_named(
+    writer: &mut WireWriter,
+    db: &Text,
+    table: &Text,
+    rec: &TableRec,
+) -> Result<(), NoMemory>
+    ensures { Gathers writer.old writer.new result (wire_bytes struct_code (table_tree (record { db = db.now; table = table.now; rec = rec.now }))) }
+{
+    put_field::<Text>(writer, 1, table)?;
+    put_field::<Text>(writer, 2, db)?;
+    put_optional::<Text>(writer, 3, &rec.owner)?;
+    put_field::<i32>(writer, 4, &rec.created)?;
+    put_field::<i32>(writer, 5, &rec.accessed)?;
+    put_field::<i32>(writer, 6, &rec.retention)?;
+    put_field::<StorageFields>(writer, 7, &rec.sd)?;
+    put_field::<ListOf<ColumnFields>>(writer, 8, &rec.keys)?;
+    put_field::<Params>(writer, 9, &rec.params)?;
+    put_optional::<Text>(writer, 10, &rec.view_original)?;
+    put_optional::<Text>(writer, 11, &rec.view_expanded)?;
+    put_optional::<Text>(writer, 12, &rec.kind)?;
+    writer.stop()
 }
 
 /// Reads a Table. Absent texts stay absent, absent numbers are 0, and absent lists and an absent map

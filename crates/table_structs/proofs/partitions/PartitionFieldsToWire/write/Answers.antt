@@ -1,16 +1,12 @@
-use Rattle.table_structs.specs.Partitions.{partition_tree, partition_written}
-use Rattle.ms_structs.proofs.PiecesWritten.{struct_written, then_end, then_field}
+use Rattle.std.proofs.Common.{subst}
+use Rattle.cat_values.specs.declared.records.PartRec.{PartRec}
+use Rattle.thrift_binary.specs.Codes.{struct_code}
+use Rattle.thrift_binary.specs.Sending.{Gathers}
+use Rattle.thrift_binary.specs.Strict.{wire_bytes}
+use Rattle.table_structs.specs.Partitions.{partition_tree}
 use Rattle.table_structs.proofs.partitions.PartitionFieldsToWire.write.Goals as goal
 
 pub returns : goal.returns
-unfolding partition_tree
 returns c =
-    struct_written c.stop.result (partition_written c.args.value.now) _ _
-    (then_field c.in_ok-put_field.ensures
-    (then_field c.in_ok-put_field-2.ensures
-    (then_field c.in_ok-put_field-3.ensures
-    (then_field c.in_ok-put_field-4.ensures
-    (then_field c.in_ok-put_field-5.ensures
-    (then_field c.in_ok-put_optional.ensures
-    (then_field c.in_ok-put_field-6.ensures
-    (then_end c.stop.ensures))))))))
+    subst (λ (rec : PartRec). Gathers c.args.writer.now c.write_named.new.writer c.write_named.result (wire_bytes struct_code (partition_tree (record { db = c.args.value.now.db; table = c.args.value.now.table; values = c.args.value.now.values; rec = rec })))) c.deref.ensures
+    c.write_named.ensures
