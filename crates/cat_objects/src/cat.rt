@@ -139,7 +139,11 @@ impl Cat {
     /// The first table of a database whose name is above this one, or the first of all, with its born
     /// and its record; none where the database isn't there. Its name is in lower case. It takes no
     /// memory.
-    pub fn table_after(&self, db: &Text, after: Option<&Text>) -> Option<(&Text, u64, &Shared<TableRec>)>
+    pub fn table_after(
+        &self,
+        db: &Text,
+        after: Option<&Text>,
+    ) -> Option<(&Text, u64, &Shared<TableRec>)>
         ensures { option_map (λ found. (found.0.now, found.1, found.2.now)) result ≡ option_map shown_table (first_after (slice_cmp nat_cmp) (option_copied after.entry) (tables_of (database self.now db.now))) }
     {
         let (name, held) = self.held_database(db)?.tables.after(after)?;

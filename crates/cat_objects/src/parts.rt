@@ -125,7 +125,10 @@ impl HeldParts {
 }
 
 // The first pair whose key is above this one.
-pub(crate) fn first_above<'a, K: Ord, V>(inner: &'a BTreeMap<K, V>, key: &K) -> Option<(&'a K, &'a V)>
+pub(crate) fn first_above<'a, K: Ord, V>(
+    inner: &'a BTreeMap<K, V>,
+    key: &K,
+) -> Option<(&'a K, &'a V)>
     ensures { option_map (λ found. (found.0.now, found.1.now)) result ≡ find (λ entry. is_lt (K.cmp key.now entry.0)) inner.now.entries }
 {
     inner.range((Bound::Excluded(key), Bound::Unbounded)).next()

@@ -139,7 +139,12 @@ fn copy_put_db(rec: &DbRec, alloc: Global) -> Result<Op, NoMemory>
     }
 }
 
-fn copy_put_table(table: &Text, born: u64, rec: &Shared<TableRec>, alloc: Global) -> Result<Op, NoMemory>
+fn copy_put_table(
+    table: &Text,
+    born: u64,
+    rec: &Shared<TableRec>,
+    alloc: Global,
+) -> Result<Op, NoMemory>
     ensures { IfOk result (λ made. made ≡ Op.PutTable table.now born rec.now) }
 {
     match (table, rec).copy_parts(alloc) {

@@ -16,7 +16,8 @@ use crate::tags::{
 use crate::version::Version;
 use crate::writing::{Put, put_tag, put_tagged};
 use cat_types::{
-    Bytes, Change, DbRec, Event, EventKind, NoMemory, Op, Ops, PartRec, Shared, TableRec, Text, Texts,
+    Bytes, Change, DbRec, Event, EventKind, NoMemory, Op, Ops, PartRec, Shared, TableRec, Text,
+    Texts,
 };
 use std::alloc::Global;
 

@@ -12,8 +12,8 @@ ghost use Rattle.rulings.specs.Rules.{first_broken};
 
 use cat_objects::{Cat, HeldTable};
 use cat_types::{
-    Columns, CopyParts, ListOf, LowerName, NamedPart, NoMemory, PartRec, Parts, Reply, Shared, Text,
-    Texts, TryCopy,
+    Columns, CopyParts, ListOf, LowerName, NamedPart, NoMemory, PartRec, Parts, Reply, Shared,
+    Text, Texts, TryCopy,
 };
 use part_names::join_name;
 use rulings::{

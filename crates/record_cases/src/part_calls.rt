@@ -4,9 +4,7 @@ use crate::outcome::words_of;
 use crate::table_calls::names_of;
 use crate::texts::texts_of;
 use crate::worded::text_of;
-use cat_types::{
-    Call, ListOf, MapOf, NamedPart, PartArg, PartArgs, PartRec, Shared, Text, Texts,
-};
+use cat_types::{Call, ListOf, MapOf, NamedPart, PartArg, PartArgs, PartRec, Shared, Text, Texts};
 use std::alloc::Global;
 use table_cases::Unable;
 

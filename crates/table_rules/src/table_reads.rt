@@ -69,7 +69,12 @@ pub fn get_table(alloc: Global, cat: &Cat, db: &Text, name: &Text) -> Decided
 }
 
 // The list of one table with its names.
-fn one_table(alloc: Global, db: &Text, name: &Text, rec: &Shared<TableRec>) -> Result<Tables, NoMemory>
+fn one_table(
+    alloc: Global,
+    db: &Text,
+    name: &Text,
+    rec: &Shared<TableRec>,
+) -> Result<Tables, NoMemory>
     ensures { IfOk result (λ made. made ≡ named_table db.now name.now rec.now ∷ []) }
 {
     let mut tables = ListOf::new(alloc);
