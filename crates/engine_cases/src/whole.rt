@@ -5,9 +5,9 @@ use crate::steps::step_of;
 use crate::stores::{Store, new_store};
 use crate::telling::tell_refusal;
 use crate::words::{maybe_signed, number_of, numbers_of, words_of};
-use cat_types::{Step, Text};
-use desk::{Foreign, Script, ScriptDesk};
-use dump_format::{ReadDumpFault, read_dump};
+use cat_types::Text;
+use desk::{Desk, Foreign, ScriptDesk};
+use dump_format::read_dump;
 use hms_outside::MemFolder;
 use repl_dump::{DumpAnswer, dump};
 use std::alloc::Global;
@@ -28,11 +28,10 @@ impl Answers for WholeDumps {
         let (asked, rest) = rest.split_once(" | ").ok_or(Unable::Form)?;
         let (turns, after) = rest.split_once(" | ").ok_or(Unable::Form)?;
         let (disk_fails, folder_fails) = words_of(fails);
+        let mut folder = MemFolder::new(alloc, numbers_of(alloc, folder_fails)?);
         let mut said = String::new(alloc);
         let store = take_all(alloc, new_store(alloc, disk_fails)?, before, &mut said)?;
-        let desk = ScriptDesk::new(store, script_of(alloc, turns)?);
-        let folder = MemFolder::new(alloc, numbers_of(alloc, folder_fails)?);
-        let store = dump_whole(alloc, desk, folder, asked, &mut said)?;
+        let store = dump_beside(alloc, store, turns, &mut folder, asked, &mut said)?;
         drop(take_all(alloc, store, after, &mut said)?);
         Ok(said)
     }
@@ -63,46 +62,85 @@ fn part(said: &mut String) -> Result<(), Unable> {
     Ok(())
 }
 
-// The turns of caller 1.
-fn script_of(alloc: Global, turns: &str) -> Result<Script, Unable> {
+// Dumps beside these turns of caller 1, and gives the store back.
+fn dump_beside(
+    alloc: Global,
+    store: Store,
+    turns: &str,
+    folder: &mut MemFolder,
+    asked: &str,
+    said: &mut String,
+) -> Result<Store, Unable> {
+    let script = script_of::<Foreign>(alloc, turns)?;
+    let mut desk = ScriptDesk::new(store, script);
+    dump_at(alloc, &mut desk, folder, asked, said)?;
+    Ok(desk.into_core())
+}
+
+// What words name. Lists of such are made without looking at them, which keeps the proof of dropping them
+// small.
+trait OfWords: Drop {
+    fn of_words(alloc: Global, words: &str) -> Result<Self, Unable>;
+}
+
+impl OfWords for Foreign {
+    fn of_words(alloc: Global, words: &str) -> Result<Foreign, Unable> {
+        Ok(Foreign {
+            caller: 1,
+            step: step_of(alloc, words)?,
+        })
+    }
+}
+
+// Turns, each behind the number of the own step before which it comes.
+fn script_of<T: OfWords>(alloc: Global, turns: &str) -> Result<VecDeque<VecDeque<T>>, Unable> {
     let mut script = VecDeque::new(alloc);
     if turns == "-" {
         return Ok(script);
     }
     for turn in turns.split("; ") {
-        let (at, step) = words_of(turn);
-        add_turn(alloc, &mut script, number_of(at)?, step_of(alloc, step)?)?;
+        let (at, words) = words_of(turn);
+        add_turn(
+            alloc,
+            &mut script,
+            number_of(at)?,
+            T::of_words(alloc, words)?,
+        )?;
     }
     Ok(script)
 }
 
 // Adds a turn before the own step of this number, which isn't before those that were added.
-fn add_turn(alloc: Global, script: &mut Script, at: u64, step: Step) -> Result<(), Unable> {
+fn add_turn<T: Drop>(
+    alloc: Global,
+    script: &mut VecDeque<VecDeque<T>>,
+    at: u64,
+    turn: T,
+) -> Result<(), Unable> {
     for _ in script.len() as u64..=at {
         script.push_back(VecDeque::new(alloc))?;
     }
     let list = script.back_mut().ok_or(Unable::Form)?;
-    list.push_back(Foreign { caller: 1, step })?;
+    list.push_back(turn)?;
     Ok(())
 }
 
-// Dumps the database of the words `DB FROM TO LIMIT`, and tells how that ended. Gives the store back.
-fn dump_whole(
+// Dumps the database of the words `DB FROM TO LIMIT` at a desk, and tells how that ended.
+fn dump_at<K: Desk>(
     alloc: Global,
-    mut desk: ScriptDesk<Store>,
-    mut folder: MemFolder,
+    desk: &mut K,
+    folder: &mut MemFolder,
     asked: &str,
     said: &mut String,
-) -> Result<Store, Unable> {
+) -> Result<(), Unable> {
     let (db, rest) = words_of(asked);
     let (from, rest) = words_of(rest);
     let (to, limit) = words_of(rest);
-    let db = Text::of(alloc, db)?;
     let (from, to, limit) = (maybe_signed(from)?, maybe_signed(to)?, maybe_signed(limit)?);
-    let answer = dump(alloc, &mut desk, &mut folder, &db, from, to, limit);
+    let db = Text::of(alloc, db)?;
+    let answer = dump(alloc, desk, folder, &db, from, to, limit);
     part(said)?;
-    tell_dump(alloc, &mut folder, answer, said)?;
-    Ok(desk.into_core())
+    tell_dump(alloc, folder, answer, said)
 }
 
 // Tells how a dump ended; of one that is whole also what is read of it.
@@ -112,37 +150,60 @@ fn tell_dump(
     answer: DumpAnswer,
     said: &mut String,
 ) -> Result<(), Unable> {
-    match &answer {
+    match answer {
         DumpAnswer::Done { dir, last } => {
             write!(said, "done {} {last}, ", dir.as_str())?;
-            tell_read(alloc, folder, dir, said)?;
+            tell_read(alloc, folder, &dir, said)
         }
-        DumpAnswer::Refused(refusal) => tell_refusal(said, *refusal)?,
-        DumpAnswer::FolderFault => said.push_str("folder fault")?,
-        DumpAnswer::StoreFault => said.push_str("store fault")?,
-        DumpAnswer::NoMemory => return Err(Unable::NoMemory),
+        DumpAnswer::Refused(refusal) => tell_refusal(said, refusal),
+        DumpAnswer::FolderFault => tell_word(said, "folder fault"),
+        DumpAnswer::StoreFault => tell_word(said, "store fault"),
+        DumpAnswer::NoMemory => Err(Unable::NoMemory),
     }
-    drop(answer);
+}
+
+fn tell_word(said: &mut String, word: &str) -> Result<(), Unable> {
+    said.push_str(word)?;
     Ok(())
 }
 
-// Tells how many files, items and events are read of a dump.
+// What is read of a dump: how many files, items and events, and its range.
+struct Read {
+    files: usize,
+    items: usize,
+    events: usize,
+    begin: u64,
+    end: u64,
+}
+
+fn read_of(alloc: Global, folder: &mut MemFolder, dir: &Text) -> Result<Read, Unable> {
+    let dump = read_dump(alloc, folder, dir.as_str()).or(Err(Unable::Form))?;
+    Ok(Read {
+        files: dump.manifest.files.len(),
+        items: dump.items.len(),
+        events: dump.events.len(),
+        begin: dump.manifest.begin,
+        end: dump.manifest.end,
+    })
+}
+
+// Tells what is read of a dump.
 fn tell_read(
     alloc: Global,
     folder: &mut MemFolder,
     dir: &Text,
     said: &mut String,
 ) -> Result<(), Unable> {
-    let read = read_dump(alloc, folder, dir.as_str()).or(Err(Unable::Form))?;
-    let (files, items, events) = (
-        read.manifest.files.len(),
-        read.items.len(),
-        read.events.len(),
-    );
+    let Read {
+        files,
+        items,
+        events,
+        begin,
+        end,
+    } = read_of(alloc, folder, dir)?;
     write!(
         said,
-        "{files} files, {items} items, {events} events, {} to {}",
-        read.manifest.begin, read.manifest.end
+        "{files} files, {items} items, {events} events, {begin} to {end}"
     )?;
     Ok(())
 }
