@@ -3,7 +3,8 @@
 use cat_values::{Bytes, NoMemory};
 use engine::Engine;
 use hms_listeners::MemListener;
-use hms_outside::{MemClock, MemDisk, MemFolder};
+use hms_outside::{MemClock, MemDisk, MemFolder, MemSink, MemSource};
+use ms_cli::{LocalEnd, run_local};
 use std::alloc::{AllocError, Global};
 use table_cases::{Unable, bytes_of};
 
@@ -30,14 +31,19 @@ pub fn words_of(alloc: Global, text: &str) -> Result<Vec<String>, AllocError> {
     Ok(words)
 }
 
-// A listener with one connection, which sends these messages.
-fn asking(alloc: Global, messages: &[&str]) -> Result<MemListener, Unable> {
+// The bytes of these messages, one behind the other.
+fn sent(alloc: Global, messages: &[&str]) -> Result<Bytes, Unable> {
     let mut bytes = Vec::new(alloc);
     for message in messages {
         bytes.extend_from_slice(bytes_of(alloc, message)?.as_slice())?;
     }
+    Ok(Bytes::from_vec(bytes)?)
+}
+
+// A listener with one connection, which sends these messages.
+fn asking(alloc: Global, messages: &[&str]) -> Result<MemListener, Unable> {
     let mut inputs = Vec::new(alloc);
-    inputs.push(Bytes::from_vec(bytes)?)?;
+    inputs.push(sent(alloc, messages)?)?;
     Ok(MemListener::new(alloc, inputs, Vec::new(alloc)))
 }
 
@@ -63,4 +69,30 @@ pub fn store(alloc: Global) -> Option<(MemDisk, MemDisk)> {
     let disk_b = MemDisk::new(alloc, Vec::new(alloc));
     let engine = Engine::create(alloc, disk_a, disk_b, [3; 16], 0).ok()?;
     Some(engine.into_disks())
+}
+
+/// The disks of a new store whose database `w` has the table `t`.
+pub fn store_with_table(alloc: Global) -> Option<(MemDisk, MemDisk)> {
+    let (disk_a, disk_b) = store(alloc)?;
+    let words = words_of(alloc, "pipe").ok()?;
+    let bytes = sent(alloc, &[MAKE_W, MAKE_T]).ok()?;
+    let LocalEnd {
+        status,
+        disk_a,
+        disk_b,
+    } = run_local(
+        alloc,
+        &words,
+        &mut MemSource::new(bytes, Vec::new(alloc)),
+        &mut MemSink::new(alloc, Vec::new(alloc)),
+        &mut MemSink::new(alloc, Vec::new(alloc)),
+        disk_a,
+        disk_b,
+        &mut MemFolder::new(alloc, Vec::new(alloc)),
+        &mut MemClock::new(Vec::new(alloc)),
+    );
+    if status != 0 {
+        return None;
+    }
+    Some((disk_a, disk_b))
 }
