@@ -77,9 +77,30 @@ def add_partitions(parts):
     return message(b"add_partitions", field(15, 1, structs(parts)))
 
 
+def repl_dump(db, begin=None):
+    """A dump of a database, or of its events after a number."""
+    return message(b"repl_dump", field(11, 1, text(db)) + (b"" if begin is None else field(10, 2, struct.pack(">q", begin))))
+
+
+def dumped(reply):
+    """The directory and the last event that the reply to a dump tells, where it has come whole, else None."""
+    head = DUMPED + field(12, 0, field(11, 1, b""))
+    if not reply.startswith(head[: len(reply)]):
+        raise ValueError(f"a dump was answered with {reply.hex()}")
+    size = reply[len(head) : len(head) + 4]
+    end = len(head) + 4 + int.from_bytes(size, "big")
+    last = reply[end : end + 13]
+    if len(size) < 4 or len(last) < 13:
+        return None
+    if last[:3] != field(10, 2, b"") or last[11:] != b"\0\0" or len(reply) > end + 13:
+        raise ValueError(f"a dump was answered with {reply.hex()}")
+    return reply[len(head) + 4 : end].decode(), int.from_bytes(last[3:11], "big", signed=True)
+
+
 LISTING = message(b"get_all_databases")
 STATUS = message(b"getStatus")
 ALIVE = bytes.fromhex("80010002") + STATUS[4:-1] + field(8, 0, b"\0\0\0\2") + b"\0"  # the reply to it
+DUMPED = bytes.fromhex("80010002") + message(b"repl_dump")[4:-1]  # the head of the reply to a dump
 MADE = bytes.fromhex("80010002") + message(b"create_database")[4:]  # the reply to the creation of a database
 
 
@@ -97,6 +118,7 @@ def names_in(reply):
 
 
 def make_store(program, folder):
-    """Makes a store in a folder, and returns the command that serves it."""
-    subprocess.run([program, folder, "dumps", "init", ID], check=True, stdout=subprocess.DEVNULL)
-    return [program, folder, "dumps", "pipe"]
+    """Makes a store in a folder, in which its dumps lie too, and returns the command that serves it."""
+    dumps = f"{folder}/dumps"
+    subprocess.run([program, folder, dumps, "init", ID], check=True, stdout=subprocess.DEVNULL)
+    return [program, folder, dumps, "pipe"]

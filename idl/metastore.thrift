@@ -205,6 +205,12 @@ struct CurrentNotificationEventId {
   1: i64 eventId
 }
 
+/** The folder that a dump wrote, by its name in the folder of dumps, and the event up to which it goes. */
+struct ReplDumpResult {
+  1: string dumpDir,
+  2: i64 lastEvent
+}
+
 exception AlreadyExistsException {
   1: string message
 }
@@ -427,5 +433,16 @@ service ThriftHiveMetastore {
     throws (1: MetaException o1),
 
   CurrentNotificationEventId get_current_notificationEventId()
+    throws (1: MetaException o1),
+
+  /**
+   * Dumps a database for a replica: all of it, or the events after fromEvent where that is there; these
+   * up to toEvent, and those of the next maxEvents numbers at most. All but dbName may be left out.
+   */
+  ReplDumpResult repl_dump(1: string dbName, 2: i64 fromEvent, 3: i64 toEvent, 4: i32 maxEvents)
+    throws (1: MetaException o1, 2: NoSuchObjectException o2),
+
+  /** Takes off the kept events up to a number, but for those that an open dump needs; the first kept number. */
+  i64 trim_events(1: i64 upTo)
     throws (1: MetaException o1)
 }

@@ -8,6 +8,7 @@
 //!   rounds over; how often it held.
 //! - `records put|get COUNT`: an event that puts a table of 50 columns is written or read as a record;
 //!   a sum of the bytes.
+//! - `digest COUNT`: 32 KiB are hashed by SHA-256; a sum of the digests' first bytes.
 //! - `wire_read skip|fields ROUNDS MIB`: a session of so many MiB is read, each message by its head,
 //!   its arguments passed over or value by value; how many messages it has, and a sum over all that
 //!   was read.
@@ -25,6 +26,7 @@
 #![tactic(auto)]
 
 mod counter;
+mod digests;
 mod events;
 mod filter;
 mod journal;
@@ -107,6 +109,7 @@ fn perform<R: Files<File = File> + Print + Alloc<A = Global> + Threads + Wait + 
         Work::Filter { lists, rounds } => filter::find(alloc, lists, rounds),
         Work::Put { count } => records::put(alloc, count),
         Work::Get { count } => records::get(alloc, count),
+        Work::Digest { count } => digests::chain(alloc, count),
         Work::WireRead {
             reading,
             rounds,

@@ -30,6 +30,9 @@ pub enum Work {
     Get {
         count: u32,
     },
+    Digest {
+        count: u32,
+    },
     WireRead {
         reading: Reading,
         rounds: u32,
@@ -58,7 +61,7 @@ pub enum Work {
 }
 
 /// Each piece of work once, and little of it.
-pub const EACH: [Work; 17] = [
+pub const EACH: [Work; 18] = [
     Work::Make { count: 3 },
     Work::Vals { count: 3 },
     Work::Spec { count: 3 },
@@ -70,6 +73,7 @@ pub const EACH: [Work; 17] = [
     },
     Work::Put { count: 3 },
     Work::Get { count: 3 },
+    Work::Digest { count: 3 },
     Work::WireRead {
         reading: Reading::Skip,
         rounds: 2,
@@ -105,6 +109,7 @@ pub fn named_work(words: &[String]) -> Option<Work> {
         "names" => names(words),
         "filter" => filter(words),
         "records" => records(words),
+        "digest" => digest(words),
         "wire_read" => wire_read(words),
         "wire_write" => wire_write(words),
         "events" => events(words),
@@ -149,6 +154,15 @@ fn records(words: &[String]) -> Option<Work> {
         "get" => Some(Work::Get { count }),
         _ => None,
     }
+}
+
+fn digest(words: &[String]) -> Option<Work> {
+    let [count] = words else {
+        return None;
+    };
+    Some(Work::Digest {
+        count: number(count)?,
+    })
 }
 
 fn wire_read(words: &[String]) -> Option<Work> {

@@ -8,7 +8,7 @@ mod words;
 use hms_outside::{FileDisk, StreamSink, StreamSource};
 use local::local;
 use server_cli::{Plan, plan};
-use serving::serve;
+use serving::{folders_of, serve};
 use std::process::ExitCode;
 use words::{command_of, dumps_of, path_of, words};
 
@@ -43,9 +43,19 @@ fn main(rt: HostRuntime) -> ExitCode {
                 disk_b,
             )
         }
-        Ok(Plan::Serve { port, workers }) => {
-            serve(&rt, command, port, workers, &mut errors, disk_a, disk_b)
-        }
+        Ok(Plan::Serve { port, workers }) => match folders_of(&rt, dumps.as_str(), workers) {
+            Ok(folders) => serve(
+                &rt,
+                command,
+                folders,
+                port,
+                workers,
+                &mut errors,
+                disk_a,
+                disk_b,
+            ),
+            Err(_) => 10,
+        },
         Err(_) => 10,
     };
     ExitCode::from(status)

@@ -1,5 +1,5 @@
 -- What a request that adds partitions says is the call that adds them.
-use Rattle.std.proofs.Common.{◌≡◌, ◌==◌, ℕ, ℤ, Bool, true, false, Option, Some, None, if◌then◌else◌, pos, refl}
+use Rattle.std.proofs.Common.{◌==◌, ℕ, ℤ, Bool, true, false, if◌then◌else◌, pos, refl}
 use Rattle.std.specs.Prelude.{⊤}
 use Rattle.std.specs.Ordering.{int_eq}
 use Rattle.cat_types.specs.declared.calls.Call.{Call}

@@ -21,8 +21,9 @@ use Rattle.thrift_binary.specs.Wire.{IsWire}
 use Rattle.ms_calls.specs.declared.method.Method.{Method}
 use Rattle.ms_calls.specs.declared.method.Method.TheVariants as method
 use Rattle.ms_calls.specs.declared.request.Asked.{Asked}
-use Rattle.ms_calls.specs.Arguments.{add_partitions_req_call, and_then, drop_database_call, from_one, from_three, from_two, given, has_valid_characters_reply, is_valid_value, list_call, name_reply, needed, needed_three, needed_two, no_limit, optional, set_ugi_reply, spec_reply, unless_unreadable, vals_reply, with_context}
-use Rattle.ms_calls.specs.Asked.{CameAs, IfClient, IfPlain, IsMethodOf, asked_by, client, context_at, database_at, flag_at, limit_at, name_asked, partition_at, partitions_at, plain, statistics_at, table_at, text_at, texts_at}
+use Rattle.ms_calls.specs.declared.request.Asked.TheVariants.{Dump, Trim}
+use Rattle.ms_calls.specs.Arguments.{add_partitions_req_call, and_then, drop_database_call, dump_asked, from_one, from_three, from_two, given, has_valid_characters_reply, is_valid_value, list_call, name_reply, needed, needed_three, needed_two, no_limit, optional, set_ugi_reply, spec_reply, trim_asked, unless_unreadable, vals_reply, with_context}
+use Rattle.ms_calls.specs.Asked.{CameAs, HasOwnMethod, IfClient, IfPlain, IsMethodOf, asked_by, client, context_at, database_at, flag_at, int_at, limit_at, long_at, name_asked, partition_at, partitions_at, plain, statistics_at, table_at, text_at, texts_at, unless_wrong}
 use Rattle.ms_structs.specs.Notifications.{request_of as poll_of}
 use Rattle.ms_structs.specs.Slots.{said}
 use Rattle.ms_structs.specs.declared.notification_request.NotificationRequest.{NotificationRequest}
@@ -35,89 +36,89 @@ use Rattle.thrift_binary.specs.Codes.{struct_code}
 use Rattle.ms_calls.specs.Replies.{CanReply}
 
 abbrev Fits : Option Method → Asked → Type 0
-Fits m asked = IfPlain asked (CanReply m) × IfClient asked (CameAs m)
+Fits m asked = IfPlain asked (CanReply m) × IfClient asked (CameAs m) × HasOwnMethod m asked
 
 -- what one argument makes, that must be there
 one_fits : {A : Type 0} (m : Method) (make : A → Call) (first : Got A) → ((a : A) → IsMethodOf (make a) m) → Fits (Some m) (client (from_one first make))
-one_fits m make Nothing is = (tt, tt)
-one_fits m make BadText is = (tt, tt)
-one_fits m make (Is a) is = (tt, is a)
+one_fits m make Nothing is = (tt, tt, tt)
+one_fits m make BadText is = (tt, tt, tt)
+one_fits m make (Is a) is = (tt, is a, tt)
 
 -- what two of them make
 two_fits : {A B : Type 0} (m : Method) (make : A → B → Call) (first : Got A) (second : Got B) → ((a : A) (b : B) → IsMethodOf (make a b) m) → Fits (Some m) (client (from_two first second make))
-two_fits m make Nothing second is = (tt, tt)
-two_fits m make BadText second is = (tt, tt)
-two_fits m make (Is a) Nothing is = (tt, tt)
-two_fits m make (Is a) BadText is = (tt, tt)
-two_fits m make (Is a) (Is b) is = (tt, is a b)
+two_fits m make Nothing second is = (tt, tt, tt)
+two_fits m make BadText second is = (tt, tt, tt)
+two_fits m make (Is a) Nothing is = (tt, tt, tt)
+two_fits m make (Is a) BadText is = (tt, tt, tt)
+two_fits m make (Is a) (Is b) is = (tt, is a b, tt)
 
 drop_database_fits : (name : Got (List ℕ)) (cascade : Got Bool) → Fits (Some method.DropDatabase) (client (drop_database_call name cascade))
-drop_database_fits Nothing cascade = (tt, tt)
-drop_database_fits BadText cascade = (tt, tt)
-drop_database_fits (Is name) Nothing = (tt, refl)
-drop_database_fits (Is name) BadText = (tt, tt)
-drop_database_fits (Is name) (Is cascade) = (tt, refl)
+drop_database_fits Nothing cascade = (tt, tt, tt)
+drop_database_fits BadText cascade = (tt, tt, tt)
+drop_database_fits (Is name) Nothing = (tt, refl, tt)
+drop_database_fits (Is name) BadText = (tt, tt, tt)
+drop_database_fits (Is name) (Is cascade) = (tt, refl, tt)
 
 -- what three of them make
 three_fits : {A B C : Type 0} (m : Method) (make : A → B → C → Call) (first : Got A) (second : Got B) (third : Got C) → ((a : A) (b : B) (c : C) → IsMethodOf (make a b c) m) → Fits (Some m) (client (from_three first second third make))
-three_fits m make Nothing second third is = (tt, tt)
-three_fits m make BadText second third is = (tt, tt)
-three_fits m make (Is a) Nothing third is = (tt, tt)
-three_fits m make (Is a) BadText third is = (tt, tt)
-three_fits m make (Is a) (Is b) Nothing is = (tt, tt)
-three_fits m make (Is a) (Is b) BadText is = (tt, tt)
-three_fits m make (Is a) (Is b) (Is c) is = (tt, is a b c)
+three_fits m make Nothing second third is = (tt, tt, tt)
+three_fits m make BadText second third is = (tt, tt, tt)
+three_fits m make (Is a) Nothing third is = (tt, tt, tt)
+three_fits m make (Is a) BadText third is = (tt, tt, tt)
+three_fits m make (Is a) (Is b) Nothing is = (tt, tt, tt)
+three_fits m make (Is a) (Is b) BadText is = (tt, tt, tt)
+three_fits m make (Is a) (Is b) (Is c) is = (tt, is a b c, tt)
 
 -- what is made and has a context beside it
 context_fits : (m : Method) (id : ℤ) (context : Got ⊤) (made : Result Call ℤ) → Fits (Some m) (client made) → Fits (Some m) (client (with_context id context made))
-context_fits m id context (Err wrong) fits = (tt, tt)
+context_fits m id context (Err wrong) fits = (tt, tt, tt)
 context_fits m id Nothing (Ok call) fits = fits
-context_fits m id BadText (Ok call) fits = (tt, tt)
+context_fits m id BadText (Ok call) fits = (tt, tt, tt)
 context_fits m id (Is context) (Ok call) fits = fits
 
 -- what a limit makes beside two others, and beside three
 limit_fits : (m : Method) (make : List ℕ → List ℕ → ℤ → Call) (db table : Got (List ℕ)) (max : Got ℤ) → ((a b : List ℕ) (n : ℤ) → IsMethodOf (make a b n) m) → Fits (Some m) (client (list_call db table max make))
-limit_fits m make Nothing table max is = (tt, tt)
-limit_fits m make BadText table max is = (tt, tt)
-limit_fits m make (Is a) Nothing max is = (tt, tt)
-limit_fits m make (Is a) BadText max is = (tt, tt)
-limit_fits m make (Is a) (Is b) Nothing is = (tt, is a b no_limit)
-limit_fits m make (Is a) (Is b) BadText is = (tt, tt)
-limit_fits m make (Is a) (Is b) (Is n) is = (tt, is a b n)
+limit_fits m make Nothing table max is = (tt, tt, tt)
+limit_fits m make BadText table max is = (tt, tt, tt)
+limit_fits m make (Is a) Nothing max is = (tt, tt, tt)
+limit_fits m make (Is a) BadText max is = (tt, tt, tt)
+limit_fits m make (Is a) (Is b) Nothing is = (tt, is a b no_limit, tt)
+limit_fits m make (Is a) (Is b) BadText is = (tt, tt, tt)
+limit_fits m make (Is a) (Is b) (Is n) is = (tt, is a b n, tt)
 
 limits_fit : {C : Type 0} (m : Method) (make : List ℕ → List ℕ → C → ℤ → Call) (all : Result (List ℕ × List ℕ × C) ℤ) (max : Got ℤ) → ((a b : List ℕ) (c : C) (n : ℤ) → IsMethodOf (make a b c n) m)
     → Fits (Some m) (client (and_then all (λ all. and_then (given (pos 4) no_limit max) (λ max. Ok (make all.0 all.1 all.2 max)))))
-limits_fit m make (Err id) max is = (tt, tt)
-limits_fit m make (Ok all) Nothing is = (tt, is all.0 all.1 all.2 no_limit)
-limits_fit m make (Ok all) BadText is = (tt, tt)
-limits_fit m make (Ok all) (Is n) is = (tt, is all.0 all.1 all.2 n)
+limits_fit m make (Err id) max is = (tt, tt, tt)
+limits_fit m make (Ok all) Nothing is = (tt, is all.0 all.1 all.2 no_limit, tt)
+limits_fit m make (Ok all) BadText is = (tt, tt, tt)
+limits_fit m make (Ok all) (Is n) is = (tt, is all.0 all.1 all.2 n, tt)
 
 -- what four arguments make that must be there
 four_fits : {C D : Type 0} (m : Method) (make : List ℕ → List ℕ → C → D → Call) (all : Result (List ℕ × List ℕ × C) ℤ) (fourth : Got D) → ((a b : List ℕ) (c : C) (d : D) → IsMethodOf (make a b c d) m)
     → Fits (Some m) (client (and_then all (λ all. and_then (needed (pos 4) fourth) (λ d. Ok (make all.0 all.1 all.2 d)))))
-four_fits m make (Err id) fourth is = (tt, tt)
-four_fits m make (Ok all) Nothing is = (tt, tt)
-four_fits m make (Ok all) BadText is = (tt, tt)
-four_fits m make (Ok all) (Is d) is = (tt, is all.0 all.1 all.2 d)
+four_fits m make (Err id) fourth is = (tt, tt, tt)
+four_fits m make (Ok all) Nothing is = (tt, tt, tt)
+four_fits m make (Ok all) BadText is = (tt, tt, tt)
+four_fits m make (Ok all) (Is d) is = (tt, is all.0 all.1 all.2 d, tt)
 
 -- what others make with one that may be absent
 optional_fits : {A C : Type 0} (m : Method) (make : A → Option C → Call) (id : ℤ) (all : Result A ℤ) (last : Got C) → ((all : A) (c : Option C) → IsMethodOf (make all c) m)
     → Fits (Some m) (client (and_then all (λ all. and_then (optional id last) (λ c. Ok (make all c)))))
-optional_fits m make id (Err wrong) last is = (tt, tt)
-optional_fits m make id (Ok all) Nothing is = (tt, is all None)
-optional_fits m make id (Ok all) BadText is = (tt, tt)
-optional_fits m make id (Ok all) (Is c) is = (tt, is all (Some c))
+optional_fits m make id (Err wrong) last is = (tt, tt, tt)
+optional_fits m make id (Ok all) Nothing is = (tt, is all None, tt)
+optional_fits m make id (Ok all) BadText is = (tt, tt, tt)
+optional_fits m make id (Ok all) (Is c) is = (tt, is all (Some c), tt)
 
 -- a request is a call that came so
 request_fits : (request : Got Call) → IfIs request (λ call. IsMethodOf call method.AddPartitionsReq) → Fits (Some method.AddPartitionsReq) (client (add_partitions_req_call request))
-request_fits Nothing is = (tt, tt)
-request_fits BadText is = (tt, tt)
-request_fits (Is call) is = (tt, is)
+request_fits Nothing is = (tt, tt, tt)
+request_fits BadText is = (tt, tt, tt)
+request_fits (Is call) is = (tt, is, tt)
 
 name_fits : (m : Method) (call : OfName) (name : Got (List ℕ)) → ((name : List ℕ) → CanReply (Some m) (name_reply call name)) → Fits (Some m) (name_asked call name)
-name_fits m call Nothing can = (tt, tt)
-name_fits m call BadText can = (tt, tt)
-name_fits m call (Is name) can = (can name, tt)
+name_fits m call Nothing can = (tt, tt, tt)
+name_fits m call BadText can = (tt, tt, tt)
+name_fits m call (Is name) can = (can name, tt, tt)
 
 vals_can : (name : List ℕ) → CanReply (Some method.PartitionNameToVals) (vals_reply name)
 vals_can name = by_fault (first_unreadable name)
@@ -139,26 +140,41 @@ valid_can false true = refl
 valid_can false false = refl
 
 valid_fits : (values : Got (List (List ℕ))) (refuse : Got Bool) → Fits (Some method.PartitionNameHasValidCharacters) (plain (has_valid_characters_reply values refuse))
-valid_fits Nothing refuse = (tt, tt)
-valid_fits BadText refuse = (tt, tt)
-valid_fits (Is values) Nothing = (valid_can (list_all is_valid_value values) false, tt)
-valid_fits (Is values) BadText = (tt, tt)
-valid_fits (Is values) (Is refuse) = (valid_can (list_all is_valid_value values) refuse, tt)
+valid_fits Nothing refuse = (tt, tt, tt)
+valid_fits BadText refuse = (tt, tt, tt)
+valid_fits (Is values) Nothing = (valid_can (list_all is_valid_value values) false, tt, tt)
+valid_fits (Is values) BadText = (tt, tt, tt)
+valid_fits (Is values) (Is refuse) = (valid_can (list_all is_valid_value values) refuse, tt, tt)
 
 user_fits : (user : Got (List ℕ)) (groups : Got (List (List ℕ))) → Fits (Some method.SetUgi) (plain (set_ugi_reply user groups))
-user_fits Nothing groups = (tt, tt)
-user_fits BadText groups = (tt, tt)
-user_fits (Is user) Nothing = (refl, tt)
-user_fits (Is user) BadText = (tt, tt)
-user_fits (Is user) (Is groups) = (refl, tt)
+user_fits Nothing groups = (tt, tt, tt)
+user_fits BadText groups = (tt, tt, tt)
+user_fits (Is user) Nothing = (refl, tt, tt)
+user_fits (Is user) BadText = (tt, tt, tt)
+user_fits (Is user) (Is groups) = (refl, tt, tt)
+
+-- what goes on with an argument fits, where it does with each value
+next_fits : {A : Type 0} (m : Method) (first : Result A ℤ) (go : A → Result Asked ℤ) → ((a : A) → Fits (Some m) (unless_wrong (go a))) → Fits (Some m) (unless_wrong (and_then first go))
+next_fits m (Err id) go fits = (tt, tt, tt)
+next_fits m (Ok a) go fits = fits a
+
+dump_fits : (db : Got (List ℕ)) (from to limit : Got ℤ) → Fits (Some method.ReplDump) (unless_wrong (dump_asked db from to limit))
+dump_fits db from to limit =
+    next_fits method.ReplDump (needed (pos 1) db) _ (λ db.
+    next_fits method.ReplDump (optional (pos 2) from) _ (λ from.
+    next_fits method.ReplDump (optional (pos 3) to) _ (λ to.
+    next_fits method.ReplDump (optional (pos 4) limit) (λ limit. Ok (Dump db from to limit)) (λ limit. (tt, tt, refl)))))
+
+trim_fits : (upto : Got ℤ) → Fits (Some method.TrimEvents) (unless_wrong (trim_asked upto))
+trim_fits upto = next_fits method.TrimEvents (needed (pos 1) upto) (λ upto. Ok (Trim upto)) (λ upto. (tt, tt, refl))
 
 asked_fits : (m : Option Method) (v : Fields) → Fits m (asked_by m v)
-asked_fits None v = (tt, tt)
-asked_fits (Some method.GetName) v = (refl, tt)
-asked_fits (Some method.GetStatus) v = (refl, tt)
-asked_fits (Some method.Shutdown) v = (tt, tt)
+asked_fits None v = (tt, tt, tt)
+asked_fits (Some method.GetName) v = (refl, tt, tt)
+asked_fits (Some method.GetStatus) v = (refl, tt, tt)
+asked_fits (Some method.Shutdown) v = (tt, tt, tt)
 asked_fits (Some method.SetUgi) v = user_fits (text_at (pos 1) v) (texts_at (pos 2) v)
-asked_fits (Some method.GetAllFunctions) v = (refl, tt)
+asked_fits (Some method.GetAllFunctions) v = (refl, tt, tt)
 asked_fits (Some method.PartitionNameHasValidCharacters) v = valid_fits (texts_at (pos 1) v) (flag_at (pos 2) v)
 asked_fits (Some method.PartitionNameToVals) v = name_fits method.PartitionNameToVals of_name.Vals (text_at (pos 1) v) vals_can
 asked_fits (Some method.PartitionNameToSpec) v = name_fits method.PartitionNameToSpec of_name.Spec (text_at (pos 1) v) spec_can
@@ -166,7 +182,7 @@ asked_fits (Some method.CreateDatabase) v = one_fits method.CreateDatabase Creat
 asked_fits (Some method.GetDatabase) v = one_fits method.GetDatabase GetDatabase (text_at (pos 1) v) (λ name. refl)
 asked_fits (Some method.DropDatabase) v = drop_database_fits (text_at (pos 1) v) (flag_at (pos 3) v)
 asked_fits (Some method.GetDatabases) v = one_fits method.GetDatabases GetDatabases (text_at (pos 1) v) (λ pattern. refl)
-asked_fits (Some method.GetAllDatabases) v = (tt, refl)
+asked_fits (Some method.GetAllDatabases) v = (tt, refl, tt)
 asked_fits (Some method.AlterDatabase) v = two_fits method.AlterDatabase AlterDatabase (text_at (pos 1) v) (database_at (pos 2) v) (λ name db. refl)
 asked_fits (Some method.CreateTable) v = context_fits method.CreateTable (pos 2) Nothing _ (one_fits method.CreateTable CreateTable (table_at (pos 1) v) (λ new. inl refl))
 asked_fits (Some method.CreateTableWithEnvironmentContext) v = context_fits method.CreateTableWithEnvironmentContext (pos 2) (context_at (pos 2) v) _ (one_fits method.CreateTableWithEnvironmentContext CreateTable (table_at (pos 1) v) (λ new. inr refl))
@@ -211,7 +227,9 @@ asked_fits (Some method.DeleteTableColumnStatistics) v = optional_fits method.De
 asked_fits (Some method.DeletePartitionColumnStatistics) v = optional_fits method.DeletePartitionColumnStatistics (λ (all : List ℕ × List ℕ × List ℕ) col. DeletePartitionColumnStatistics all.0 all.1 all.2 col) (pos 4) (needed_three (text_at (pos 1) v) (text_at (pos 2) v) (text_at (pos 3) v)) (text_at (pos 4) v) (λ all col. refl)
 asked_fits (Some method.GetTableStatisticsReq) v = one_fits method.GetTableStatisticsReq (λ (request : StatsRequest). GetTableStatisticsReq request.db request.table request.cols) (said (pos 1) struct_code statistics_request_of v) (λ request. refl)
 asked_fits (Some method.GetNextNotification) v = one_fits method.GetNextNotification (λ (request : NotificationRequest). GetNextNotification request.last request.max) (said (pos 1) struct_code poll_of v) (λ request. refl)
-asked_fits (Some method.GetCurrentNotificationEventId) v = (tt, refl)
+asked_fits (Some method.GetCurrentNotificationEventId) v = (tt, refl, tt)
+asked_fits (Some method.ReplDump) v = dump_fits (text_at (pos 1) v) (long_at (pos 2) v) (long_at (pos 3) v) (int_at (pos 4) v)
+asked_fits (Some method.TrimEvents) v = trim_fits (long_at (pos 1) v)
 
 -- so does what was read
 pub read_fits : (m : Option Method) (a b : Option (List ℕ)) (p q : Progress) (result : Result Asked WireFault) (depth : ℕ) (Stops : Stop → List ℕ → Type 0)
@@ -226,3 +244,7 @@ fits_plain m (Err e) h = tt
 pub fits_client : (m : Option Method) (result : Result Asked WireFault) → IfOk result (Fits m) → IfOk result (λ asked. IfClient asked (CameAs m))
 fits_client m (Ok asked) h = h.1
 fits_client m (Err e) h = tt
+
+pub fits_own : (m : Option Method) (result : Result Asked WireFault) → IfOk result (Fits m) → IfOk result (HasOwnMethod m)
+fits_own m (Ok asked) h = h.2
+fits_own m (Err e) h = tt

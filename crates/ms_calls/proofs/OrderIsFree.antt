@@ -4,8 +4,8 @@ use Rattle.cat_types.specs.declared.calls.Call.TheVariants.{AppendPartition, App
 use Rattle.ms_calls.specs.declared.method.Method.{Method}
 use Rattle.ms_calls.specs.declared.method.Method.TheVariants as method
 use Rattle.ms_calls.specs.declared.part_texts.OfName.TheVariants as of_name
-use Rattle.ms_calls.specs.Arguments.{add_partition_call, add_partitions_call, add_partitions_req_call, alter_database_call, alter_partition_call, alter_partitions_call, alter_table_call, create_database_call, create_table_call, delete_part_statistics_call, delete_statistics_call, drop_database_call, drop_partition_call, drop_table_call, from_one, from_three, get_all_tables_call, get_database_call, get_databases_call, get_fields_call, get_next_notification_call, get_part_statistics_call, get_schema_call, get_statistics_req_call, get_table_call, get_table_objects_by_name_call, get_table_req_call, get_tables_call, has_valid_characters_reply, list_call, list_some_call, rename_partition_call, set_ugi_reply}
-use Rattle.ms_calls.specs.Asked.{asked_by, client, name_asked, plain, SameByIds, OrderOfFieldsIsFree}
+use Rattle.ms_calls.specs.Arguments.{add_partition_call, add_partitions_call, add_partitions_req_call, alter_database_call, alter_partition_call, alter_partitions_call, alter_table_call, create_database_call, create_table_call, delete_part_statistics_call, delete_statistics_call, drop_database_call, drop_partition_call, drop_table_call, dump_asked, from_one, from_three, get_all_tables_call, get_database_call, get_databases_call, get_fields_call, get_next_notification_call, get_part_statistics_call, get_schema_call, get_statistics_req_call, get_table_call, get_table_objects_by_name_call, get_table_req_call, get_tables_call, has_valid_characters_reply, list_call, list_some_call, rename_partition_call, set_ugi_reply, trim_asked}
+use Rattle.ms_calls.specs.Asked.{asked_by, client, name_asked, plain, unless_wrong, SameByIds, OrderOfFieldsIsFree}
 use Rattle.ms_calls.specs.Methods.{method_named}
 use Rattle.ms_structs.specs.declared.got.Got.TheVariants.{Nothing}
 use Rattle.ms_structs.specs.Database.{database_of}
@@ -19,7 +19,7 @@ use Rattle.table_structs.specs.PartRequests.{adding_of}
 use Rattle.table_structs.specs.Partitions.{partition_of}
 use Rattle.table_structs.specs.Requests.{request_of}
 use Rattle.table_structs.specs.Tables.{table_of}
-use Rattle.thrift_binary.specs.Codes.{bool_code, i16_code, list_code, struct_code, text_code}
+use Rattle.thrift_binary.specs.Codes.{bool_code, i16_code, i32_code, i64_code, list_code, struct_code, text_code}
 use Rattle.thrift_binary.specs.Tree.{Fields}
 
 order_by : (m : Option Method) (v w : Fields) → SameByIds v w → asked_by m v ≡ asked_by m w
@@ -82,6 +82,8 @@ order_by (Some method.DeletePartitionColumnStatistics) v w same = λ i. client (
 order_by (Some method.GetTableStatisticsReq) v w same = λ i. client (get_statistics_req_call (said_same (pos 1) struct_code statistics_request_of v w same i))
 order_by (Some method.GetNextNotification) v w same = λ i. client (get_next_notification_call (said_same (pos 1) struct_code poll_of v w same i))
 order_by (Some method.GetCurrentNotificationEventId) v w same = refl
+order_by (Some method.ReplDump) v w same = λ i. unless_wrong (dump_asked (said_same (pos 1) text_code text_of v w same i) (said_same (pos 2) i64_code number_of v w same i) (said_same (pos 3) i64_code number_of v w same i) (said_same (pos 4) i32_code number_of v w same i))
+order_by (Some method.TrimEvents) v w same = λ i. unless_wrong (trim_asked (said_same (pos 1) i64_code number_of v w same i))
 
 pub order_is_free : OrderOfFieldsIsFree
 order_is_free name v w same = order_by (method_named name) v w same

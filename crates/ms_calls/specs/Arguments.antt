@@ -6,7 +6,7 @@ use Rattle.cat_types.specs.declared.arguments.PartArg.{PartArg}
 use Rattle.cat_types.specs.declared.arguments.StatsArg.{StatsArg}
 use Rattle.cat_types.specs.declared.arguments.TableArg.{TableArg}
 use Rattle.cat_types.specs.declared.calls.Call.{Call}
-use Rattle.cat_types.specs.declared.calls.Call.TheVariants.{AddPartition, AddPartitions, AlterDatabase, AlterPartition, AlterPartitions, AlterTable, AppendPartition, AppendPartitionByName, CreateDatabase, CreateTable, DeletePartitionColumnStatistics, DeleteTableColumnStatistics, DropDatabase, DropPartition, DropPartitionByName, DropTable, GetAllTables, GetDatabase, GetDatabases, GetFields, GetNextNotification, GetNumPartitionsByFilter, GetPartition, GetPartitionByName, GetPartitionColumnStatistics, GetPartitionNames, GetPartitionNamesPs, GetPartitions, GetPartitionsByFilter, GetPartitionsByNames, GetPartitionsPs, GetSchema, GetTable, GetTableColumnStatistics, GetTableObjectsByName, GetTableReq, GetTableStatisticsReq, GetTables, RenamePartition, UpdatePartitionColumnStatistics, UpdateTableColumnStatistics}
+use Rattle.cat_types.specs.declared.calls.Call.TheVariants.{AddPartition, AddPartitions, AlterDatabase, AlterPartition, AlterPartitions, AlterTable, AppendPartition, AppendPartitionByName, CreateDatabase, CreateTable, DeletePartitionColumnStatistics, DeleteTableColumnStatistics, DropDatabase, DropPartition, DropPartitionByName, DropTable, GetAllTables, GetDatabase, GetDatabases, GetFields, GetNextNotification, GetNumPartitionsByFilter, GetPartition, GetPartitionByName, GetPartitionColumnStatistics, GetPartitionNames, GetPartitionNamesPs, GetPartitions, GetPartitionsByNames, GetPartitionsPs, GetSchema, GetTable, GetTableColumnStatistics, GetTableObjectsByName, GetTableReq, GetTableStatisticsReq, GetTables, RenamePartition, UpdatePartitionColumnStatistics, UpdateTableColumnStatistics}
 use Rattle.cat_types.specs.declared.replies.Reply.{Reply}
 use Rattle.cat_types.specs.declared.replies.Reply.TheVariants.{Flag, Names, Spec}
 use Rattle.ms_calls.specs.declared.of_partitions.OfFirstValues.{OfFirstValues}
@@ -23,6 +23,8 @@ use Rattle.ms_calls.specs.declared.of_texts.OfTwoTexts.{OfTwoTexts}
 use Rattle.ms_calls.specs.declared.of_texts.OfTwoTexts.TheVariants as of_two_texts
 use Rattle.ms_calls.specs.declared.part_texts.OfName.{OfName}
 use Rattle.ms_calls.specs.declared.part_texts.OfName.TheVariants as of_name
+use Rattle.ms_calls.specs.declared.request.Asked.{Asked}
+use Rattle.ms_calls.specs.declared.request.Asked.TheVariants.{Dump, Trim}
 use Rattle.ms_calls.specs.declared.statistics.UpdateStatistics.{UpdateStatistics}
 use Rattle.ms_calls.specs.declared.statistics.UpdateStatistics.TheVariants as update
 use Rattle.ms_calls.specs.Refusals.{invalid_request}
@@ -265,6 +267,16 @@ get_statistics_req_call request = from_one request (λ request. GetTableStatisti
 -- delete_partition_column_statistics: 1 the database, 2 the table, 3 the partition's name, 4 the column, which may be absent
 abbrev pub delete_part_statistics_call : Got (List ℕ) → Got (List ℕ) → Got (List ℕ) → Got (List ℕ) → Result Call ℤ
 delete_part_statistics_call db table part col = and_then (needed_three db table part) (λ all. and_then (optional (pos 4) col) (λ col. Ok (DeletePartitionColumnStatistics all.0 all.1 all.2 col)))
+
+-- ---- replication
+
+-- repl_dump: 1 the database, and three numbers that may be absent: 2 after which event, 3 up to which one, 4 how many numbers at most
+abbrev pub dump_asked : Got (List ℕ) → Got ℤ → Got ℤ → Got ℤ → Result Asked ℤ
+dump_asked db from to limit = and_then (needed (pos 1) db) (λ db. and_then (optional (pos 2) from) (λ from. and_then (optional (pos 3) to) (λ to. and_then (optional (pos 4) limit) (λ limit. Ok (Dump db from to limit)))))
+
+-- trim_events: 1 up to which event
+abbrev pub trim_asked : Got ℤ → Result Asked ℤ
+trim_asked upto = from_one upto Trim
 
 -- ---- names of partitions, which need no catalogue
 

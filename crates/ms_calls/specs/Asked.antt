@@ -9,10 +9,10 @@ use Rattle.cat_types.specs.declared.calls.Call.TheVariants.{AddPartition, AddPar
 use Rattle.cat_types.specs.declared.replies.Reply.{Reply}
 use Rattle.cat_types.specs.declared.replies.Reply.TheVariants.{Names, Nothing, Number}
 use Rattle.ms_calls.specs.declared.request.Asked.{Asked}
-use Rattle.ms_calls.specs.declared.request.Asked.TheVariants.{BadArgument, Client, Plain, Unknown, Shutdown}
+use Rattle.ms_calls.specs.declared.request.Asked.TheVariants.{BadArgument, Client, Dump, Plain, Shutdown, Trim, Unknown}
 use Rattle.ms_calls.specs.declared.method.Method.{Method}
 use Rattle.ms_calls.specs.declared.method.Method.TheVariants as method
-use Rattle.ms_calls.specs.Arguments.{add_partition_call, add_partitions_call, add_partitions_req_call, alter_database_call, alter_partition_call, alter_partitions_call, alter_table_call, create_database_call, create_table_call, delete_part_statistics_call, delete_statistics_call, drop_database_call, drop_partition_call, drop_table_call, from_one, from_three, get_all_tables_call, get_database_call, get_databases_call, get_fields_call, get_next_notification_call, get_part_statistics_call, get_schema_call, get_statistics_req_call, get_table_call, get_table_objects_by_name_call, get_table_req_call, get_tables_call, has_valid_characters_reply, list_call, list_some_call, name_reply, rename_partition_call, set_ugi_reply}
+use Rattle.ms_calls.specs.Arguments.{add_partition_call, add_partitions_call, add_partitions_req_call, alter_database_call, alter_partition_call, alter_partitions_call, alter_table_call, create_database_call, create_table_call, delete_part_statistics_call, delete_statistics_call, drop_database_call, drop_partition_call, drop_table_call, dump_asked, from_one, from_three, get_all_tables_call, get_database_call, get_databases_call, get_fields_call, get_next_notification_call, get_part_statistics_call, get_schema_call, get_statistics_req_call, get_table_call, get_table_objects_by_name_call, get_table_req_call, get_tables_call, has_valid_characters_reply, list_call, list_some_call, name_reply, rename_partition_call, set_ugi_reply, trim_asked}
 use Rattle.ms_calls.specs.declared.part_texts.OfName.{OfName}
 use Rattle.ms_calls.specs.declared.part_texts.OfName.TheVariants as of_name
 use Rattle.ms_structs.specs.Database.{database_of}
@@ -28,7 +28,7 @@ use Rattle.table_structs.specs.PartRequests.{adding_of}
 use Rattle.table_structs.specs.Partitions.{partition_of}
 use Rattle.table_structs.specs.Requests.{request_of}
 use Rattle.table_structs.specs.Tables.{table_of}
-use Rattle.thrift_binary.specs.Codes.{bool_code, i16_code, list_code, struct_code, text_code}
+use Rattle.thrift_binary.specs.Codes.{bool_code, i16_code, i32_code, i64_code, list_code, struct_code, text_code}
 use Rattle.thrift_binary.specs.Tree.{Fields}
 use Rattle.ms_structs.specs.Values.{flag_of, items_of, number_of, text_of}
 
@@ -45,6 +45,11 @@ client (Err id) = BadArgument id
 abbrev pub plain : Result Reply ℤ → Asked
 plain (Ok reply) = Plain reply
 plain (Err id) = BadArgument id
+
+-- what is asked, unless an argument is wrong, which is told by its id
+abbrev pub unless_wrong : Result Asked ℤ → Asked
+unless_wrong (Ok asked) = asked
+unless_wrong (Err id) = BadArgument id
 
 -- a name of a partition: what is answered of it, or the id of a wrong argument
 abbrev pub name_asked : OfName → Got (List ℕ) → Asked
@@ -75,6 +80,14 @@ table_at id v = said id struct_code table_of v
 -- a number of two bytes
 abbrev pub limit_at : ℤ → Fields → Got ℤ
 limit_at id v = said id i16_code number_of v
+
+-- a number of four bytes
+abbrev pub int_at : ℤ → Fields → Got ℤ
+int_at id v = said id i32_code number_of v
+
+-- a number of eight bytes
+abbrev pub long_at : ℤ → Fields → Got ℤ
+long_at id v = said id i64_code number_of v
 
 -- a Partition
 abbrev pub partition_at : ℤ → Fields → Got PartArg
@@ -153,6 +166,8 @@ asked_by (Some method.DeletePartitionColumnStatistics) v = client (delete_part_s
 asked_by (Some method.GetTableStatisticsReq) v = client (get_statistics_req_call (said (pos 1) struct_code statistics_request_of v))
 asked_by (Some method.GetNextNotification) v = client (get_next_notification_call (said (pos 1) struct_code poll_of v))
 asked_by (Some method.GetCurrentNotificationEventId) v = Client GetCurrentNotificationEventId
+asked_by (Some method.ReplDump) v = unless_wrong (dump_asked (text_at (pos 1) v) (long_at (pos 2) v) (long_at (pos 3) v) (int_at (pos 4) v))
+asked_by (Some method.TrimEvents) v = unless_wrong (trim_asked (long_at (pos 1) v))
 
 -- a message with this name
 abbrev pub asked_of : List ℕ → Fields → Asked
@@ -162,6 +177,8 @@ asked_of name v = asked_by (method_named name) v
 abbrev pub IfPlain : Asked → (Reply → Type 0) → Type 0
 IfPlain (Plain reply) fact = fact reply
 IfPlain (Client call) fact = ⊤
+IfPlain (Dump db from to limit) fact = ⊤
+IfPlain (Trim upto) fact = ⊤
 IfPlain Unknown fact = ⊤
 IfPlain (BadArgument id) fact = ⊤
 IfPlain Shutdown fact = ⊤
@@ -169,6 +186,8 @@ IfPlain Shutdown fact = ⊤
 -- a fact of a call of the catalogue
 abbrev pub IfClient : Asked → (Call → Type 0) → Type 0
 IfClient (Client call) fact = fact call
+IfClient (Dump db from to limit) fact = ⊤
+IfClient (Trim upto) fact = ⊤
 IfClient (Plain reply) fact = ⊤
 IfClient Unknown fact = ⊤
 IfClient (BadArgument id) fact = ⊤
@@ -225,6 +244,16 @@ IsMethodOf GetCurrentNotificationEventId named = named ≡ method.GetCurrentNoti
 abbrev pub CameAs : Option Method → Call → Type 0
 CameAs None call = ⊥
 CameAs (Some named) call = IsMethodOf call named
+
+-- a dump and a trim are each asked for by a method of their own
+abbrev pub HasOwnMethod : Option Method → Asked → Type 0
+HasOwnMethod named (Dump db from to limit) = named ≡ Some method.ReplDump
+HasOwnMethod named (Trim upto) = named ≡ Some method.TrimEvents
+HasOwnMethod named (Client call) = ⊤
+HasOwnMethod named (Plain reply) = ⊤
+HasOwnMethod named Unknown = ⊤
+HasOwnMethod named (BadArgument id) = ⊤
+HasOwnMethod named Shutdown = ⊤
 
 -- two structs have, of each id, the same fields in the same order
 abbrev pub SameByIds : Fields → Fields → Type 0

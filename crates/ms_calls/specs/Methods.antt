@@ -6,7 +6,7 @@ use Rattle.ms_calls.specs.declared.exception.Exception.TheVariants.{AlreadyExist
 use Rattle.ms_calls.specs.declared.method.Method.{Method}
 use Rattle.ms_calls.specs.declared.method.Method.TheVariants as method
 use Rattle.ms_calls.specs.declared.method.ResultType.{ResultType}
-use Rattle.ms_calls.specs.declared.method.ResultType.TheVariants.{NoReply, NoField, EmptyStruct, OneText, TextList, Flag, TextMap, Int, Database, OneTable, TableResult, TableList, ColumnList, OnePart, PartList, PartsResult, Statistics, StatisticsResult, Events, NewestEvent}
+use Rattle.ms_calls.specs.declared.method.ResultType.TheVariants.{NoReply, NoField, EmptyStruct, OneText, TextList, Flag, TextMap, Int, Database, OneTable, TableResult, TableList, ColumnList, OnePart, PartList, PartsResult, Statistics, StatisticsResult, Events, NewestEvent, DumpResult, Long}
 
 -- the call of the server itself whose messages have this name
 unfoldable pub server_named : List ℕ → Option Method
@@ -101,6 +101,13 @@ event_named name =
     else (if bytes_eq name (codes "get_current_notificationEventId") then Some method.GetCurrentNotificationEventId
     else None)
 
+-- the call of replication whose messages have this name
+unfoldable pub replication_named : List ℕ → Option Method
+replication_named name =
+    if bytes_eq name (codes "repl_dump") then Some method.ReplDump
+    else (if bytes_eq name (codes "trim_events") then Some method.TrimEvents
+    else None)
+
 -- the first of two that is there
 abbrev pub first_of : Option Method → Option Method → Option Method
 first_of (Some method) other = Some method
@@ -108,7 +115,7 @@ first_of None other = other
 
 -- the call whose messages have this name
 unfoldable pub method_named : List ℕ → Option Method
-method_named name = first_of (server_named name) (first_of (database_named name) (first_of (table_named name) (first_of (new_part_named name) (first_of (held_part_named name) (first_of (statistics_named name) (event_named name))))))
+method_named name = first_of (server_named name) (first_of (database_named name) (first_of (table_named name) (first_of (new_part_named name) (first_of (held_part_named name) (first_of (statistics_named name) (first_of (event_named name) (replication_named name)))))))
 
 -- what a call results in
 abbrev pub result_type : Method → ResultType
@@ -170,6 +177,8 @@ result_type method.DeletePartitionColumnStatistics = Flag
 result_type method.GetTableStatisticsReq = StatisticsResult
 result_type method.GetNextNotification = Events
 result_type method.GetCurrentNotificationEventId = NewestEvent
+result_type method.ReplDump = DumpResult
+result_type method.TrimEvents = Long
 
 -- the exceptions that a call declares, in the order of their ids: the first has the id 1
 abbrev pub exceptions_of : Method → List Exception
@@ -231,3 +240,5 @@ exceptions_of method.DeletePartitionColumnStatistics = NoSuchObject ∷ Meta ∷
 exceptions_of method.GetTableStatisticsReq = NoSuchObject ∷ Meta ∷ []
 exceptions_of method.GetNextNotification = Meta ∷ []
 exceptions_of method.GetCurrentNotificationEventId = Meta ∷ []
+exceptions_of method.ReplDump = Meta ∷ NoSuchObject ∷ []
+exceptions_of method.TrimEvents = Meta ∷ []

@@ -2,8 +2,8 @@
 use Rattle.std.specs.Prelude.{[], ◌∷◌, pos}
 use Rattle.cat_types.specs.declared.calls.Call.TheVariants.{GetAllDatabases, GetCurrentNotificationEventId, GetPartitionsByFilter}
 use Rattle.cat_types.specs.declared.replies.Reply.TheVariants.{Names, Nothing, Number}
-use Rattle.ms_calls.specs.Arguments.{add_partition_call, add_partitions_call, add_partitions_req_call, alter_database_call, alter_partition_call, alter_partitions_call, alter_table_call, call_of_first_values, call_of_limit, call_of_statistics, call_of_text, call_of_three_texts, call_of_two_texts, call_of_values, create_database_call, create_table_call, delete_part_statistics_call, delete_statistics_call, drop_database_call, drop_partition_call, drop_table_call, from_one, from_three, from_two, get_next_notification_call, get_part_statistics_call, get_statistics_req_call, get_table_objects_by_name_call, get_table_req_call, has_valid_characters_reply, list_call, list_some_call, rename_partition_call, set_ugi_reply}
-use Rattle.ms_calls.specs.Asked.{client, context_at, database_at, flag_at, limit_at, name_asked, partition_at, partitions_at, plain, server_name, statistics_at, table_at, text_at, texts_at}
+use Rattle.ms_calls.specs.Arguments.{add_partition_call, add_partitions_call, add_partitions_req_call, alter_database_call, alter_partition_call, alter_partitions_call, alter_table_call, call_of_first_values, call_of_limit, call_of_statistics, call_of_text, call_of_three_texts, call_of_two_texts, call_of_values, create_database_call, create_table_call, delete_part_statistics_call, delete_statistics_call, drop_database_call, drop_partition_call, drop_table_call, dump_asked, from_one, from_three, from_two, get_next_notification_call, get_part_statistics_call, get_statistics_req_call, get_table_objects_by_name_call, get_table_req_call, has_valid_characters_reply, list_call, list_some_call, rename_partition_call, set_ugi_reply, trim_asked}
+use Rattle.ms_calls.specs.Asked.{client, context_at, database_at, flag_at, int_at, limit_at, long_at, name_asked, partition_at, partitions_at, plain, server_name, statistics_at, table_at, text_at, texts_at, unless_wrong}
 use Rattle.ms_calls.specs.declared.plan.Bare.{Bare}
 use Rattle.ms_calls.specs.declared.plan.Bare.TheVariants as bare
 use Rattle.ms_calls.specs.declared.plan.OnDatabase.{OnDatabase}
@@ -91,3 +91,5 @@ planned (plan.OfFirstValues call) v = client (list_some_call (text_at (pos 1) v)
 planned (plan.OnPartition call) v = planned_on_partition call v
 planned (plan.OnStatistics call) v = planned_on_statistics call v
 planned plan.GetNextNotification v = client (get_next_notification_call (said (pos 1) struct_code poll_of v))
+planned plan.ReplDump v = unless_wrong (dump_asked (text_at (pos 1) v) (long_at (pos 2) v) (long_at (pos 3) v) (int_at (pos 4) v))
+planned plan.TrimEvents v = unless_wrong (trim_asked (long_at (pos 1) v))

@@ -7,7 +7,7 @@ use Rattle.cat_types.specs.declared.named.NamedTable.{NamedTable}
 use Rattle.cat_types.specs.declared.replies.Reply.{Reply}
 use Rattle.cat_types.specs.declared.replies.Reply.TheVariants as reply
 use Rattle.thrift_binary.specs.Codes as codes
-use Rattle.thrift_binary.specs.Codes.{bool_code, i32_code, list_code, map_code, struct_code, text_code}
+use Rattle.thrift_binary.specs.Codes.{bool_code, i32_code, i64_code, list_code, map_code, struct_code, text_code}
 use Rattle.thrift_binary.specs.declared.head.Head.{Head}
 use Rattle.thrift_binary.specs.Tree.{Wire, Flag, Number, Bytes, Struct, Fields, NoFields, Field}
 use Rattle.ms_calls.specs.declared.method.Method.{Method}
@@ -15,7 +15,8 @@ use Rattle.ms_calls.specs.declared.method.ResultType.{ResultType}
 use Rattle.ms_calls.specs.declared.method.ResultType.TheVariants as of
 use Rattle.ms_calls.specs.Methods.{result_type}
 use Rattle.ms_calls.specs.Exceptions.{general_code, declared_id}
-use Rattle.ms_structs.specs.Notifications.{events_fields, newest_fields}
+use Rattle.ms_structs.specs.Dumps.{dump_result}
+use Rattle.ms_structs.specs.Notifications.{cut_long, events_fields, newest_fields}
 use Rattle.ms_structs.specs.Written.{items_tree, params_tree, texts_tree, database_fields}
 use Rattle.stat_structs.specs.Statistics.{statistics_tree}
 use Rattle.stat_structs.specs.Requests.{statistics_result}
@@ -91,6 +92,8 @@ result_fields of.Statistics (reply.ColumnStats db table part stats) = Some (Fiel
 result_fields of.StatisticsResult (reply.Stats stats) = Some (Field struct_code (pos 0) (statistics_result stats) NoFields)
 result_fields of.Events (reply.Events events) = Some (Field struct_code (pos 0) (Struct (events_fields events (map message_text events))) NoFields)
 result_fields of.NewestEvent (reply.Big number) = Some (Field struct_code (pos 0) (Struct (newest_fields number)) NoFields)
+result_fields of.DumpResult (reply.Dumped dir last) = Some (Field struct_code (pos 0) (dump_result dir (cut_long last)) NoFields)
+result_fields of.Long (reply.Big number) = Some (Field i64_code (pos 0) (Number number) NoFields)
 result_fields type reply = None
 
 -- a TApplicationException: the text, and the code

@@ -4,7 +4,7 @@ ghost use Rattle.std.specs.Prelude.{◌≡◌, ◌≤◌, [], ◌∷◌, None, I
 ghost use Rattle.hms_outside.specs.Causes.{Rose, StaysBut};
 ghost use Rattle.cat_types.specs.declared.replies.Reply.TheVariants.{Names};
 ghost use Rattle.ms_calls.specs.Arguments.{has_valid_characters_reply, set_ugi_reply};
-ghost use Rattle.ms_calls.specs.Asked.{CameAs, IfClient, IfPlain, asked_by, asked_of, flag_at, name_asked, plain, server_name, text_at, texts_at};
+ghost use Rattle.ms_calls.specs.Asked.{CameAs, HasOwnMethod, IfClient, IfPlain, asked_by, asked_of, flag_at, name_asked, plain, server_name, text_at, texts_at};
 ghost use Rattle.ms_calls.specs.Methods.{method_named};
 ghost use Rattle.ms_calls.specs.Plans.{bare_asked, planned, planned_on_database, planned_on_partition, planned_on_statistics, planned_on_table};
 ghost use Rattle.ms_calls.specs.Replies.{CanReply};
@@ -24,6 +24,7 @@ use crate::partitions::{
     RenamePartition,
 };
 use crate::plan::{Bare, OnDatabase, OnPartition, OnStatistics, OnTable, Plan, plan_of};
+use crate::replication::{ReplDump, TrimEvents, read_replication};
 use crate::server::{GetNextNotification, server_name, set_ugi};
 use crate::slots::{One, Shape, Two};
 use crate::statistics::{
@@ -42,7 +43,8 @@ use std::alloc::Global;
 use thrift_binary::{Head, WireFault, WireReader, type_code};
 
 /// Reads the arguments of the message with this head, to the message's end, and says what it asks.
-/// A plain reply is one that the call can have, and a call of the catalogue came under its own name.
+/// A plain reply is one that the call can have, and a call of the catalogue, a dump or a trim came
+/// under its own name.
 pub fn asked<S: Source>(
     alloc: Global,
     head: &Head,
@@ -56,6 +58,7 @@ pub fn asked<S: Source>(
     ensures unspent { OnOk result (reader.new.progress.fault ≡ None) }
     ensures plain { IfOk result (λ asked. IfPlain asked (CanReply (method_named head.now.name))) }
     ensures client { IfOk result (λ asked. IfClient asked (CameAs (method_named head.now.name))) }
+    ensures own { IfOk result (HasOwnMethod (method_named head.now.name)) }
 {
     asked_by(alloc, method_named(head.name.as_str()), reader)
 }
@@ -75,6 +78,7 @@ pub fn asked_by<S: Source>(
     ensures unspent { OnOk result (reader.new.progress.fault ≡ None) }
     ensures plain { IfOk result (λ asked. IfPlain asked (CanReply method)) }
     ensures client { IfOk result (λ asked. IfClient asked (CameAs method)) }
+    ensures own { IfOk result (HasOwnMethod method) }
 {
     read_asked(alloc, method, reader)
 }
@@ -127,6 +131,8 @@ fn read_plan<S: Source>(
             GetNextNotification,
             reader,
         ),
+        Plan::ReplDump => read_replication::<ReplDump, S>(alloc, ReplDump, reader),
+        Plan::TrimEvents => read_replication::<TrimEvents, S>(alloc, TrimEvents, reader),
     }
 }
 

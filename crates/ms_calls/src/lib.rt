@@ -14,6 +14,7 @@ mod part_texts;
 mod partitions;
 mod plan;
 mod refusals;
+mod replication;
 mod reply;
 mod request;
 mod server;

@@ -1,7 +1,7 @@
 //! The calls that are known.
 
 ghost use Rattle.std.specs.Prelude.{◌≡◌, ◌<◌, length};
-ghost use Rattle.ms_calls.specs.Methods.{database_named, event_named, exceptions_of, held_part_named, method_named, new_part_named, result_type, server_named, statistics_named, table_named};
+ghost use Rattle.ms_calls.specs.Methods.{database_named, event_named, exceptions_of, held_part_named, method_named, new_part_named, replication_named, result_type, server_named, statistics_named, table_named};
 
 use crate::Exception;
 
@@ -66,6 +66,8 @@ pub enum Method {
     GetTableStatisticsReq,
     GetNextNotification,
     GetCurrentNotificationEventId,
+    ReplDump,
+    TrimEvents,
 }
 
 /// What stands under field 0 of the struct that replies to a call.
@@ -111,6 +113,10 @@ pub enum ResultType {
     Events,
     /// The number of the newest event.
     NewestEvent,
+    /// A struct with the folder of a dump in it, and the number of the event up to which it goes.
+    DumpResult,
+    /// A number of eight bytes.
+    Long,
 }
 
 /// The call whose messages have this name.
@@ -136,7 +142,10 @@ pub fn method_named(name: &str) -> Option<Method>
     if let Some(method) = statistics_named(name) {
         return Some(method);
     }
-    event_named(name)
+    if let Some(method) = event_named(name) {
+        return Some(method);
+    }
+    replication_named(name)
 }
 
 // The call of the server itself whose messages have this name.
@@ -273,6 +282,18 @@ fn event_named(name: &str) -> Option<Method>
     }
 }
 
+// The call of replication whose messages have this name.
+#[tactic(auto, unfolding(crate::specs::Methods::replication_named))]
+fn replication_named(name: &str) -> Option<Method>
+    ensures { result ≡ replication_named name.now }
+{
+    match name {
+        "repl_dump" => Some(Method::ReplDump),
+        "trim_events" => Some(Method::TrimEvents),
+        _ => None,
+    }
+}
+
 impl Method {
     /// What the call results in.
     pub fn result_type(self) -> ResultType
@@ -337,6 +358,8 @@ impl Method {
             Method::GetTableStatisticsReq => ResultType::StatisticsResult,
             Method::GetNextNotification => ResultType::Events,
             Method::GetCurrentNotificationEventId => ResultType::NewestEvent,
+            Method::ReplDump => ResultType::DumpResult,
+            Method::TrimEvents => ResultType::Long,
         }
     }
 
@@ -360,7 +383,8 @@ impl Method {
             | Method::GetFields
             | Method::GetSchema
             | Method::GetNextNotification
-            | Method::GetCurrentNotificationEventId => &[Exception::Meta],
+            | Method::GetCurrentNotificationEventId
+            | Method::TrimEvents => &[Exception::Meta],
             Method::CreateDatabase => &[
                 Exception::AlreadyExists,
                 Exception::InvalidObject,
@@ -389,7 +413,8 @@ impl Method {
             | Method::GetPartitionNamesPs
             | Method::GetPartitionsByFilter
             | Method::GetNumPartitionsByFilter
-            | Method::GetPartitionsByNames => &[Exception::Meta, Exception::NoSuchObject],
+            | Method::GetPartitionsByNames
+            | Method::ReplDump => &[Exception::Meta, Exception::NoSuchObject],
             Method::CreateTable | Method::CreateTableWithEnvironmentContext => &[
                 Exception::AlreadyExists,
                 Exception::InvalidObject,

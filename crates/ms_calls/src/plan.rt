@@ -32,6 +32,8 @@ pub enum Plan {
     OnPartition(OnPartition),
     OnStatistics(OnStatistics),
     GetNextNotification,
+    ReplDump,
+    TrimEvents,
 }
 
 /// What asks for the same whatever its arguments are.
@@ -205,5 +207,7 @@ pub fn plan_of(method: Option<Method>) -> Plan
         Some(Method::GetCurrentNotificationEventId) => {
             Plan::Bare(Bare::GetCurrentNotificationEventId)
         }
+        Some(Method::ReplDump) => Plan::ReplDump,
+        Some(Method::TrimEvents) => Plan::TrimEvents,
     }
 }

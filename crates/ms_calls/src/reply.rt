@@ -2,11 +2,12 @@
 
 ghost use Rattle.std.specs.Prelude.{◌≡◌, ◌==◌, IfOk, IsSome, map, pos};
 ghost use Rattle.std.specs.Option.{option_copied};
-ghost use Rattle.thrift_binary.specs.Codes.{list_code, map_code, oneway_kind, struct_code};
+ghost use Rattle.thrift_binary.specs.Codes.{i64_code, list_code, map_code, oneway_kind, struct_code};
 ghost use Rattle.thrift_binary.specs.Sending.{Gathers};
 ghost use Rattle.thrift_binary.specs.Strict.{fields_bytes, message_bytes, wire_bytes};
-ghost use Rattle.thrift_binary.specs.Tree.{Field, NoFields, Struct};
-ghost use Rattle.ms_structs.specs.Notifications.{events_fields, newest_fields};
+ghost use Rattle.thrift_binary.specs.Tree.{Field, NoFields, Number, Struct};
+ghost use Rattle.ms_structs.specs.Dumps.{dump_result};
+ghost use Rattle.ms_structs.specs.Notifications.{cut_long, events_fields, newest_fields};
 ghost use Rattle.ms_structs.specs.Written.{items_tree, params_tree};
 ghost use Rattle.stat_structs.specs.Statistics.{statistics_tree};
 ghost use Rattle.stat_structs.specs.Requests.{statistics_result};
@@ -26,8 +27,8 @@ use cat_types::{
     Parts, Reply, StatsDesc, Tables, Text, Texts,
 };
 use ms_structs::{
-    ToWire, put_list, put_texts, write_current_notification_event_id, write_database,
-    write_get_all_functions_response, write_notification_event_response,
+    ToWire, cut_long, put_list, put_texts, write_current_notification_event_id, write_database,
+    write_get_all_functions_response, write_notification_event_response, write_repl_dump_result,
 };
 use notify_log::message;
 use stat_structs::{write_column_statistics, write_table_stats_result};
@@ -170,6 +171,8 @@ fn put_result(
         (ResultType::StatisticsResult, Reply::Stats(stats)) => put_statistics_result(writer, stats),
         (ResultType::Events, Reply::Events(events)) => put_events(alloc, writer, events),
         (ResultType::NewestEvent, Reply::Big(number)) => put_newest(writer, *number),
+        (ResultType::DumpResult, Reply::Dumped(dir, last)) => put_dumped(writer, dir, *last),
+        (ResultType::Long, Reply::Big(number)) => put_long(writer, *number),
         _ => unreachable!(),
     }
 }
@@ -366,6 +369,22 @@ fn put_newest(writer: &mut WireWriter, number: i64) -> Result<(), NoMemory>
 {
     writer.field(type_code::STRUCT, 0)?;
     write_current_notification_event_id(writer, number)
+}
+
+// The folder of a dump, and the number of the event up to which it goes, under field 0.
+fn put_dumped(writer: &mut WireWriter, dir: &Text, last: u64) -> Result<(), NoMemory>
+    ensures { Gathers writer.old writer.new result (fields_bytes (Field struct_code (pos 0) (dump_result dir.now (cut_long last)) NoFields)) }
+{
+    writer.field(type_code::STRUCT, 0)?;
+    write_repl_dump_result(writer, dir, cut_long(last))
+}
+
+// A number of eight bytes, under field 0.
+fn put_long(writer: &mut WireWriter, number: i64) -> Result<(), NoMemory>
+    ensures { Gathers writer.old writer.new result (fields_bytes (Field i64_code (pos 0) (Number number) NoFields)) }
+{
+    writer.field(type_code::I64, 0)?;
+    writer.long(number)
 }
 
 // The fields of a refusal, by its code where every call may be answered it, or by the id of its exception.

@@ -1,12 +1,12 @@
 -- Where no disk counts a fault, no step is answered by one.
-use Rattle.std.proofs.Common.{◌≡◌, ◌≢◌, ℕ, ◌<◌, ◌≤◌, ◌^◌, ◌-◌, List, [], ◌∷◌, map, subst, arith}
+use Rattle.std.proofs.Common.{◌≢◌, ℕ, ◌<◌, ◌≤◌, ◌^◌, ◌-◌, List, [], ◌∷◌, map, subst, arith}
 use Rattle.hms_outside.specs.Causes.{Rose}
 use Rattle.cat_types.specs.declared.steps.Answer.{Answer}
 use Rattle.cat_types.specs.declared.steps.Answer.TheVariants.{StoreFault}
 use Rattle.cat_types.specs.declared.steps.Step.{Step}
-use Rattle.desk.specs.History.{Entry, IsLegal, NoneAbove, NoStoreFault, Point, next, point_of, took}
+use Rattle.desk.specs.History.{Entry, IsLegal, NoneAbove, NoStoreFault, Point, Start, next, point_of, took}
 use Rattle.desk.specs.State.{MayAnswer, State}
-use Rattle.ms_cli.specs.Local.{Outside, Piped, fault_of}
+use Rattle.ms_cli.specs.Opened.{Closed, Outside, fault_of}
 
 -- a fault of the store would have raised the fault number
 not_told : (s : State) (before caller after : ℕ) (step : Step) (given : Answer) → MayAnswer s before caller step given after → after ≤ before → before < 2 ^ 64 - 1 → given ≢ StoreFault
@@ -26,7 +26,7 @@ none_told p (e ∷ es) n legal none stays low = (
 pub did_not_rise : (before now : ℕ) → (Rose before now → ⊥) → (now ≤ before) × (now < 2 ^ 64 - 1)
 did_not_rise before now quiet = (omega (arith, quiet), omega (arith, quiet))
 
-pub counted : (old new : Outside) (status : ℕ) (piped : Piped old new status) → (Rose (fault_of old) (fault_of new) → ⊥) → NoStoreFault piped.entries
-counted old new status piped quiet =
+pub counted : (start : Start) (entries : List Entry) (old new : Outside) → fault_of old ≤ start.fault → Closed start entries new.disk_a new.disk_b → (Rose (fault_of old) (fault_of new) → ⊥) → NoStoreFault entries
+counted start entries old new later closed quiet =
     let d = did_not_rise (fault_of old) (fault_of new) quiet in
-    none_told (point_of piped.start) piped.entries (fault_of new) piped.served.legal piped.served.none_above (omega (arith, d.0, piped.later)) d.1
+    none_told (point_of start) entries (fault_of new) closed.legal closed.none_above (omega (arith, d.0, later)) d.1

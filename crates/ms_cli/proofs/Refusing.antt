@@ -1,13 +1,13 @@
 -- What a refusal of a store tells.
-use Rattle.std.proofs.Common.{inl, inr, ◌≡◌, ℕ, ◌<◌, List, length, Option, Some, None, refl, sym, subst, ◌∙◌}
-use Rattle.std.specs.Prelude.{◌⊎◌, IfSome}
+use Rattle.std.proofs.Common.{inl, inr, ◌≡◌, ℕ, List, Option, Some, None, refl, sym, subst, ◌∙◌}
+use Rattle.std.specs.Prelude.{IfSome}
 use Rattle.desk.specs.History.{Point}
 use Rattle.engine.specs.Keeping.{Kept}
 use Rattle.engine.specs.Opening.{IsBrokenStore}
 use Rattle.hms_outside.specs.Causes.{Rose}
 use Rattle.hms_outside.specs.Disks.{Lay, Lies, Went}
-use Rattle.ms_cli.specs.Keeping.{Disk, RefusesBytes}
-use Rattle.ms_cli.specs.Local.{NoStore, Outside, Unopened}
+use Rattle.ms_cli.specs.Keeping.{Disk, OpensNone, RefusesBytes}
+use Rattle.ms_cli.specs.Opened.{NoStore, Outside, Unopened}
 use Rattle.ms_cli.specs.Telling.{Lines, refusal_line, refusal_status}
 use Rattle.ms_cli.proofs.Keeps.{held_outage, stays_kept}
 use Rattle.ms_journal.specs.Faults.{IsOpeningFault, IsOutage}
@@ -52,7 +52,7 @@ unopened fault old new status left same kind foreign broken cause outage stays w
 }
 
 -- status 6 is for the bytes
-opening_6 : (fault : OpenFault) (c : List ℕ) → IsOpeningFault fault → refusal_status fault ≡ 6 → RefusesBytes fault c → IsForeign c ⊎ ((at : ℕ) × IsBrokenStore at c)
+opening_6 : (fault : OpenFault) (c : List ℕ) → IsOpeningFault fault → refusal_status fault ≡ 6 → RefusesBytes fault c → OpensNone c
 opening_6 NotEmpty c kind is due = absurd kind
 opening_6 Foreign c kind is due = inl due
 opening_6 (Broken at) c kind is due = inr (at, due)
@@ -60,7 +60,11 @@ opening_6 DiskFault c kind is due = absurd cc
 opening_6 NoMemory c kind is due = absurd cc
 
 -- what status 6 says of the bytes
+pub store_6 : (fault : OpenFault) (lies : Option Lies) → IsOpeningFault fault → refusal_status fault ≡ 6 → IfSome lies (λ d. RefusesBytes fault d.held) → IfSome lies (λ d. OpensNone d.held)
+store_6 fault None kind is due = tt
+store_6 fault (Some d) kind is due = opening_6 fault d.held kind is due
+
+-- the same where an opening was refused
 pub opening_store : (fault : OpenFault) (lies : Option Lies) (status : ℕ) → IsOpeningFault fault → (fault ≡ Foreign → IfSome lies (λ d. IsForeign d.held)) → ((at : ℕ) → fault ≡ Broken at → IfSome lies (λ d. IsBrokenStore at d.held))
-    → status ≡ refusal_status fault → status ≡ 6 → IfSome lies (λ d. IsForeign d.held ⊎ ((at : ℕ) × IsBrokenStore at d.held))
-opening_store fault None status kind foreign broken is six = tt
-opening_store fault (Some d) status kind foreign broken is six = opening_6 fault d.held kind (sym is ∙ six) (opening_bytes fault (Some d) kind foreign broken)
+    → status ≡ refusal_status fault → status ≡ 6 → IfSome lies (λ d. OpensNone d.held)
+opening_store fault lies status kind foreign broken is six = store_6 fault lies kind (sym is ∙ six) (opening_bytes fault lies kind foreign broken)

@@ -5,7 +5,7 @@ use Rattle.engine.specs.Keeping.{IsReopened, Kept, KeptSince, LeavesKept}
 use Rattle.engine.specs.Opening.{IsBrokenStore}
 use Rattle.hms_outside.specs.Disks.{EachImage, Lies, Went}
 use Rattle.ms_cli.specs.declared.words.Command.{Command}
-use Rattle.ms_cli.specs.declared.words.Command.TheVariants.{Pipe, Init, Wrong}
+use Rattle.ms_cli.specs.declared.words.Command.TheVariants.{Pipe, Init, Dump, Trim, Wrong}
 use Rattle.ms_journal.specs.Files.{IsForeign}
 use Rattle.ms_journal.specs.declared.fault.OpenFault.{OpenFault}
 use Rattle.ms_journal.specs.declared.fault.OpenFault.TheVariants as opening
@@ -28,10 +28,16 @@ RefusesBytes (opening.Broken at) c = IsBrokenStore at c
 RefusesBytes opening.DiskFault c = ⊤
 RefusesBytes opening.NoMemory c = ⊤
 
+-- these bytes of disk A open to no store: they are no store's, or they are broken at a place
+abbrev pub OpensNone : List ℕ → Type 0
+OpensNone c = IsForeign c ⊎ ((at : ℕ) × IsBrokenStore at c)
+
 -- these bytes of disk A refuse what a command does with a store: there are some already, or they open to none
 abbrev pub RefusesStore : Command → List ℕ → Type 0
 RefusesStore (Init id) c = 0 < length c
-RefusesStore Pipe c = IsForeign c ⊎ ((at : ℕ) × IsBrokenStore at c)
+RefusesStore Pipe c = OpensNone c
+RefusesStore (Dump db range) c = OpensNone c
+RefusesStore (Trim upto) c = OpensNone c
 RefusesStore (Wrong usage) c = ⊥
 
 -- a disk that lies so is kept for a history that stands at this point: what a read of it gives, and all that a crash may leave of it

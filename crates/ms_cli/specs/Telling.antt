@@ -5,10 +5,12 @@ use Rattle.hex.specs.Hex.{encode_lower}
 use Rattle.hms_outside.specs.Causes.{HasCause}
 use Rattle.hms_outside.specs.Told.{Goes, Grew, Held, Same, Sent}
 use Rattle.hms_outside.specs.declared.outage.Outage.{Outage}
+use Rattle.cat_types.specs.declared.steps.DumpRefusal.{DumpRefusal}
 use Rattle.ms_cli.specs.declared.words.Usage.{Usage}
 use Rattle.ms_cli.specs.declared.words.Usage.TheVariants as usage
 use Rattle.ms_journal.specs.declared.fault.OpenFault.{OpenFault}
 use Rattle.ms_journal.specs.declared.fault.OpenFault.TheVariants as opening
+use Rattle.repl_dump.specs.Refusals.{refusal_text}
 use Rattle.ms_session.specs.declared.end.End.{End}
 use Rattle.ms_session.specs.declared.end.End.TheVariants.{Done, Shutdown, Truncated, BadWire, TooLarge, ReadFault, WriteFault, NoMemory}
 
@@ -60,6 +62,18 @@ usage_line usage.Id = codes "usage: HEXID\n"
 abbrev pub made_line : List ℕ → List ℕ
 made_line id = codes "init " ++ encode_lower id ++ 10 ∷ []
 
+-- the line that says that a dump was made: its directory, and the event that it goes up to
+abbrev pub dump_line : List ℕ → ℕ → List ℕ
+dump_line dir last = codes "dump " ++ (dir ++ (codes " " ++ (decimal last ++ 10 ∷ [])))
+
+-- the line that tells why a dump was refused
+abbrev pub refused_dump_line : DumpRefusal → List ℕ
+refused_dump_line refusal = codes "dump refused: " ++ (refusal_text refusal ++ 10 ∷ [])
+
+-- the line that tells the number of the first kept event
+abbrev pub kept_line : ℕ → List ℕ
+kept_line first = codes "kept " ++ decimal first ++ 10 ∷ []
+
 -- a call that tells a line: after Ok it was added whole and flushed, and after an Err a front of it was added
 abbrev pub TellsLine : {T E : Type 0} → List ℕ → Result T E → Option Held → Option Held → Type 0
 TellsLine line result old new = MatchResult result (λ _. Goes (Sent line) old new) (λ _. (n : ℕ) × Goes (Grew (take n line)) old new)
@@ -97,3 +111,11 @@ Writes line (Truncated place) old new = ⊥
 Writes line (BadWire code place) old new = ⊥
 Writes line (TooLarge place) old new = ⊥
 Writes line ReadFault old new = ⊥
+
+-- a line was written on the output, how that ended was told, and the status is that end's
+abbrev pub Says : List ℕ → Option Held → Option Held → Errors → Errors → ℕ → Type 0
+Says line old new errors errors' status = (ended : End) × Writes line ended old new × Tells ended errors errors' × (status ≡ status_of ended)
+
+-- nothing was written on the output, a line was told on the sink of errors, and the status is this one
+abbrev pub Fails : List ℕ → ℕ → Option Held → Option Held → Errors → Errors → ℕ → Type 0
+Fails line number old new errors errors' status = (new ≡ old) × Lines line errors errors' × (status ≡ number)

@@ -1,16 +1,14 @@
 //! Serving a session at the store that the disks hold.
 
-ghost use Rattle.std.specs.Prelude.{◌≡◌, ◌≢◌, ◌⊎◌, List, [], IfSome, ℕ};
+ghost use Rattle.std.specs.Prelude.{◌≡◌, ◌≢◌, ◌⊎◌, ◌≤◌, []};
 ghost use Rattle.hms_outside.specs.Causes.{Rose};
-ghost use Rattle.desk.specs.History.{Entry};
-ghost use Rattle.engine.specs.Opening.{IsBrokenStore};
-ghost use Rattle.ms_cli.specs.Keeping.{seen};
-ghost use Rattle.ms_cli.specs.Local.{Piped, Served, Unopened};
-ghost use Rattle.ms_cli.specs.Telling.{status_of};
-ghost use Rattle.ms_journal.specs.Files.{IsForeign};
-ghost use Rattle.ms_session.specs.declared.end.End.{End};
+ghost use Rattle.ms_cli.specs.Keeping.{Disk, seen};
+ghost use Rattle.ms_cli.specs.Local.{Serves};
+ghost use Rattle.ms_cli.specs.Opened.{Opened, Unopened, Worked};
+ghost use Rattle.ms_session.specs.Turns.{shelf_of};
 
 use crate::LocalEnd;
+use crate::closing::close;
 use crate::local::refuse;
 use crate::telling::{status, tell};
 use desk::LocalDesk;
@@ -30,15 +28,13 @@ pub fn pipe<S: Source, K: Sink, E: Sink, D: Disk, F: Folder, C: Clock>(
     folder: &mut F,
     clock: &mut C,
 ) -> LocalEnd<D>
-    ensures did { Piped (record { met = record { left = S.left input.old; held = K.held output.old; clock = C.moments clock.old; files = F.files folder.old }; errors = record { held = E.held errors.old; faults = E.faults errors.old }; disk_a = seen D.lies D.past D.faults disk_a; disk_b = seen D.lies D.past D.faults disk_b }) (record { met = record { left = S.left input.new; held = K.held output.new; clock = C.moments clock.new; files = F.files folder.new }; errors = record { held = E.held errors.new; faults = E.faults errors.new }; disk_a = seen D.lies D.past D.faults result.disk_a; disk_b = seen D.lies D.past D.faults result.disk_b }) result.status ⊎ Unopened (record { met = record { left = S.left input.old; held = K.held output.old; clock = C.moments clock.old; files = F.files folder.old }; errors = record { held = E.held errors.old; faults = E.faults errors.old }; disk_a = seen D.lies D.past D.faults disk_a; disk_b = seen D.lies D.past D.faults disk_b }) (record { met = record { left = S.left input.new; held = K.held output.new; clock = C.moments clock.new; files = F.files folder.new }; errors = record { held = E.held errors.new; faults = E.faults errors.new }; disk_a = seen D.lies D.past D.faults result.disk_a; disk_b = seen D.lies D.past D.faults result.disk_b }) result.status }
+    ensures did { Opened (Serves (record { met = record { left = S.left input.old; held = K.held output.old; clock = C.moments clock.old; shelf = shelf_of (F.files folder.old) (F.faults folder.old) }; errors = record { held = E.held errors.old; faults = E.faults errors.old }; disk_a = seen D.lies D.past D.faults disk_a; disk_b = seen D.lies D.past D.faults disk_b }) (record { met = record { left = S.left input.new; held = K.held output.new; clock = C.moments clock.new; shelf = shelf_of (F.files folder.new) (F.faults folder.new) }; errors = record { held = E.held errors.new; faults = E.faults errors.new }; disk_a = seen D.lies D.past D.faults result.disk_a; disk_b = seen D.lies D.past D.faults result.disk_b }) result.status) (record { met = record { left = S.left input.old; held = K.held output.old; clock = C.moments clock.old; shelf = shelf_of (F.files folder.old) (F.faults folder.old) }; errors = record { held = E.held errors.old; faults = E.faults errors.old }; disk_a = seen D.lies D.past D.faults disk_a; disk_b = seen D.lies D.past D.faults disk_b }) (record { met = record { left = S.left input.new; held = K.held output.new; clock = C.moments clock.new; shelf = shelf_of (F.files folder.new) (F.faults folder.new) }; errors = record { held = E.held errors.new; faults = E.faults errors.new }; disk_a = seen D.lies D.past D.faults result.disk_a; disk_b = seen D.lies D.past D.faults result.disk_b }) ⊎ Unopened (record { met = record { left = S.left input.old; held = K.held output.old; clock = C.moments clock.old; shelf = shelf_of (F.files folder.old) (F.faults folder.old) }; errors = record { held = E.held errors.old; faults = E.faults errors.old }; disk_a = seen D.lies D.past D.faults disk_a; disk_b = seen D.lies D.past D.faults disk_b }) (record { met = record { left = S.left input.new; held = K.held output.new; clock = C.moments clock.new; shelf = shelf_of (F.files folder.new) (F.faults folder.new) }; errors = record { held = E.held errors.new; faults = E.faults errors.new }; disk_a = seen D.lies D.past D.faults result.disk_a; disk_b = seen D.lies D.past D.faults result.disk_b }) result.status }
     ensures no_usage { result.status ≢ 2 }
     ensures read { result.status ≡ 3 → Rose (S.faults input.old) (S.faults input.new) }
     ensures write { result.status ≡ 4 → Rose (K.faults output.old) (K.faults output.new) }
-    ensures disk { result.status ≡ 5 → Rose (D.faults disk_a) (D.faults result.disk_a) }
-    ensures store { result.status ≡ 6 → IfSome (D.lies disk_a) (λ d. IsForeign d.held ⊎ ((at : ℕ) × IsBrokenStore at d.held)) }
     ensures input_stays { result.status ≢ 3 → S.faults input.new ≡ S.faults input.old }
     ensures output_stays { result.status ≢ 4 → K.faults output.new ≡ K.faults output.old }
-    ensures folder { folder.new ≡ folder.old }
+    ensures folder_later { F.faults folder.old ≤ F.faults folder.new }
 {
     match Engine::open_store(alloc, disk_a, disk_b) {
         Ok(engine) => serve(alloc, input, output, errors, engine, folder, clock),
@@ -57,17 +53,18 @@ fn serve<S: Source, K: Sink, E: Sink, D: Disk, F: Folder, C: Clock>(
     clock: &mut C,
 ) -> LocalEnd<D>
     requires { engine.history ≡ [] }
-    ensures served { (entries : List Entry) × (ended : End) × Served engine.start entries ended (record { met = record { left = S.left input.old; held = K.held output.old; clock = C.moments clock.old; files = F.files folder.old }; errors = record { held = E.held errors.old; faults = E.faults errors.old }; disk_a = seen D.lies D.past D.faults engine.disk_a; disk_b = seen D.lies D.past D.faults engine.disk_b }) (record { met = record { left = S.left input.new; held = K.held output.new; clock = C.moments clock.new; files = F.files folder.new }; errors = record { held = E.held errors.new; faults = E.faults errors.new }; disk_a = seen D.lies D.past D.faults result.disk_a; disk_b = seen D.lies D.past D.faults result.disk_b }) × (result.status ≡ status_of ended) }
+    ensures worked { (a b : Disk) → Worked (Serves (record { met = record { left = S.left input.old; held = K.held output.old; clock = C.moments clock.old; shelf = shelf_of (F.files folder.old) (F.faults folder.old) }; errors = record { held = E.held errors.old; faults = E.faults errors.old }; disk_a = a; disk_b = b }) (record { met = record { left = S.left input.new; held = K.held output.new; clock = C.moments clock.new; shelf = shelf_of (F.files folder.new) (F.faults folder.new) }; errors = record { held = E.held errors.new; faults = E.faults errors.new }; disk_a = seen D.lies D.past D.faults result.disk_a; disk_b = seen D.lies D.past D.faults result.disk_b }) result.status) engine.start (seen D.lies D.past D.faults result.disk_a) (seen D.lies D.past D.faults result.disk_b) }
+    ensures no_usage { result.status ≢ 2 }
     ensures read { result.status ≡ 3 → Rose (S.faults input.old) (S.faults input.new) }
     ensures write { result.status ≡ 4 → Rose (K.faults output.old) (K.faults output.new) }
     ensures input_stays { result.status ≢ 3 → S.faults input.new ≡ S.faults input.old }
     ensures output_stays { result.status ≢ 4 → K.faults output.new ≡ K.faults output.old }
-    ensures folder { folder.new ≡ folder.old }
+    ensures folder_later { F.faults folder.old ≤ F.faults folder.new }
 {
     let mut desk = LocalDesk::new(engine);
     let end = serve_session(alloc, input, output, &mut desk, folder, clock);
     let _ = tell(alloc, errors, end);
-    let (disk_a, disk_b) = desk.into_core().into_disks();
+    let (disk_a, disk_b) = close(desk.into_core());
     LocalEnd {
         status: status(end),
         disk_a,

@@ -1,13 +1,17 @@
-//! Telling on the sink of errors why the program doesn't end well, and the statuses.
+//! Telling what was done on the output, on the sink of errors why the program doesn't end well, and the
+//! statuses.
 
-ghost use Rattle.std.specs.Prelude.{◌≡◌, IfOk, OnErr, string_bytes};
-ghost use Rattle.hms_outside.specs.Causes.{HasCause};
-ghost use Rattle.ms_cli.specs.Telling.{TellsEnd, TellsLine, TellsNothing, refusal_line, refusal_status, status_of, usage_line};
+ghost use Rattle.std.specs.Prelude.{◌≡◌, ◌≢◌, ◌⊎◌, IfOk, List, OnErr, string_bytes, ℕ};
+ghost use Rattle.hms_outside.specs.Causes.{HasCause, Rose};
+ghost use Rattle.ms_session.specs.declared.end.End.{End};
+ghost use Rattle.ms_cli.specs.Telling.{Says, TellsEnd, TellsLine, TellsNothing, Writes, refusal_line, refusal_status, refused_dump_line, status_of, usage_line};
 
 use crate::Usage;
+use cat_types::{DumpRefusal, NoMemory};
 use hms_outside::{Outage, Sink, send_all};
 use ms_journal::OpenFault;
 use ms_session::End;
+use repl_dump::refusal_text;
 use std::alloc::{AllocError, Global};
 
 /// The status of a session's end.
@@ -79,6 +83,58 @@ pub fn tell_usage<E: Sink>(errors: &mut E, usage: Usage) -> Result<(), Outage>
         Usage::Words => tell_line(errors, "usage\n"),
         Usage::LongWord => tell_line(errors, "usage: word\n"),
         Usage::Id => tell_line(errors, "usage: HEXID\n"),
+    }
+}
+
+/// Tells why a dump was refused.
+pub fn tell_refused_dump<E: Sink>(
+    alloc: Global,
+    errors: &mut E,
+    refusal: DumpRefusal,
+) -> Result<(), Outage>
+    ensures told { TellsLine (refused_dump_line refusal) result (E.held errors.old) (E.held errors.new) }
+    ensures cause { HasCause (E.faults errors.old) (E.faults errors.new) result }
+{
+    match refusal_text(alloc, refusal) {
+        Ok(text) => {
+            let cause = text.as_str();
+            tell_text(errors, format!(in alloc; "dump refused: {cause}\n"))
+        }
+        Err(NoMemory) => Err(Outage::NoMemory),
+    }
+}
+
+/// Writes a line on the output, tells how that ended, and returns the status.
+pub fn say_done<K: Sink, E: Sink>(
+    alloc: Global,
+    output: &mut K,
+    errors: &mut E,
+    text: Result<String, AllocError>,
+) -> u8
+    ensures says { (line : List ℕ) → IfOk text (λ t. string_bytes t ≡ line) → Says line (K.held output.old) (K.held output.new) (record { held = E.held errors.old; faults = E.faults errors.old }) (record { held = E.held errors.new; faults = E.faults errors.new }) result }
+    ensures status { (result ≡ 0) ⊎ ((result ≡ 4) ⊎ (result ≡ 10)) }
+    ensures write { result ≡ 4 → Rose (K.faults output.old) (K.faults output.new) }
+    ensures output_stays { result ≢ 4 → K.faults output.new ≡ K.faults output.old }
+{
+    let end = say(output, text);
+    let _ = tell(alloc, errors, end);
+    status(end)
+}
+
+/// Writes a line on the output, if there was memory for it, and returns how that ended.
+pub fn say<K: Sink>(output: &mut K, text: Result<String, AllocError>) -> End
+    ensures wrote { (line : List ℕ) → IfOk text (λ t. string_bytes t ≡ line) → Writes line result (K.held output.old) (K.held output.new) }
+    ensures kind { (result ≡ End.Done) ⊎ ((result ≡ End.WriteFault) ⊎ (result ≡ End.NoMemory)) }
+    ensures write { result ≡ End.WriteFault → Rose (K.faults output.old) (K.faults output.new) }
+    ensures output_stays { result ≢ End.WriteFault → K.faults output.new ≡ K.faults output.old }
+{
+    match text {
+        Ok(line) => match send_all(output, line.as_str().as_bytes()) {
+            Ok(()) => End::Done,
+            Err(Outage::Failed) => End::WriteFault,
+            Err(Outage::NoMemory) => End::NoMemory,
+        },
+        Err(AllocError) => End::NoMemory,
     }
 }
 

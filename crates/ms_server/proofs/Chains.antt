@@ -1,13 +1,13 @@
 -- How connections that are served go together.
-use Rattle.std.proofs.Common.{Bool, ◌≡◌, ℕ, ◌+◌, ◌<◌, ◌≤◌, List, [], ◌∷◌, ◌++◌, length, refl, sym, ◌∙◌, ap, subst, arith}
-use Rattle.std.specs.Prelude.{Option, None, Some, IfSome, ◌≢◌}
+use Rattle.std.proofs.Common.{Bool, ◌≡◌, ℕ, ◌+◌, ◌<◌, ◌≤◌, List, [], ◌∷◌, ◌++◌, refl, sym, ◌∙◌, ap, subst, arith}
+use Rattle.std.specs.Prelude.{Option, None, Some, IfSome}
 use Rattle.std.specs.List.{flat_map}
 use Rattle.std.proofs.lemmas.Grind.{flat_map-append}
 use Rattle.std.proofs.lemmas.List.{length-append, append-nil}
-use mathlib.Core.Logic.{◌⊎◌, inl, inr}
+use mathlib.Core.Logic.{inr}
 use Rattle.desk.specs.History.{Entry}
 use Rattle.desk.specs.Adds.{Adds}
-use Rattle.desk.proofs.Additions.{adds_as, adds_both, adds_weaker}
+use Rattle.desk.proofs.Additions.{adds_as, adds_both}
 use Rattle.hms_listeners.specs.Listening.{Appended, HandsOut, HoldsNothing, as_returned}
 use Rattle.hms_outside.specs.Told.{Goes}
 use Rattle.hms_outside.specs.Causes.{Rose}
@@ -20,14 +20,14 @@ use Rattle.ms_session.specs.declared.end.End.TheVariants.{ReadFault, WriteFault}
 
 -- a session between a listener's two calls is a visit
 pub visited : (old new : Around) (before after : Met) (xs : List Entry) (ended : End) (source_faults sink_faults : ℕ)
-    → HandsOut old.inputs new.inputs before.left → HoldsNothing before.held → before.clock ≡ old.clock → before.files ≡ old.files
+    → HandsOut old.inputs new.inputs before.left → HoldsNothing before.held → before.clock ≡ old.clock → before.shelf ≡ old.shelf
     → Goes (Appended (as_returned after.held source_faults sink_faults)) old.returned new.returned
-    → new.clock ≡ after.clock → new.files ≡ after.files → new.faults ≡ old.faults
+    → new.clock ≡ after.clock → new.shelf ≡ after.shelf → new.faults ≡ old.faults
     → (ended ≡ ReadFault → 0 < source_faults) → (ended ≡ WriteFault → 0 < sink_faults)
     → Session before after xs ended → (v : Visit) × IsVisit v old × (v.behind ≡ new) × (xs ≡ v.entries)
-visited old new before after xs ended source_faults sink_faults input empty clock files back clock_behind files_behind faults read write session =
+visited old new before after xs ended source_faults sink_faults input empty clock shelf back clock_behind shelf_behind faults read write session =
     let v : Visit = record { before = before; after = after; entries = xs; ended = ended; source_faults = source_faults; sink_faults = sink_faults; behind = new } in
-    let is : IsVisit v old = record { input = input; empty = empty; clock = clock; files = files; session = session; back = back; clock_behind = clock_behind; files_behind = files_behind; faults = faults; read = read; write = write } in
+    let is : IsVisit v old = record { input = input; empty = empty; clock = clock; shelf = shelf; session = session; back = back; clock_behind = clock_behind; shelf_behind = shelf_behind; faults = faults; read = read; write = write } in
     (v, is, refl, refl)
 
 chain_more : (vs : List Visit) (v : Visit) (old mid : Around) → Chain vs old mid → IsVisit v mid → Chain (vs ++ v ∷ []) old v.behind
@@ -110,5 +110,5 @@ failed sessions limit fault old new xs is cause s = record {
   inputs = s.refused.inputs;
   returned = s.refused.returned;
   clock = s.refused.clock;
-  files = s.refused.files;
+  shelf = s.refused.shelf;
 }

@@ -1,29 +1,29 @@
 -- The connections that a worker serves, one after the other.
-use Rattle.std.specs.Prelude.{◌≡◌, ◌≢◌, ◌⊎◌, ◌<◌, ◌≤◌, ◌↔◌, ℕ, List, [], ◌∷◌, length, Option, None, Some, IfSome, Result, MatchResult}
+use Rattle.std.specs.Prelude.{◌≡◌, ◌⊎◌, ◌<◌, ◌≤◌, ◌↔◌, ℕ, List, [], ◌∷◌, length, Option, Some, IfSome, Result, MatchResult}
 use Rattle.std.specs.List.{flat_map}
 use Rattle.desk.specs.History.{Entry}
 use Rattle.hms_listeners.specs.Listening.{Appended, HandsOut, HoldsNothing, Returned, as_returned}
 use Rattle.hms_outside.specs.Causes.{Rose}
 use Rattle.hms_outside.specs.Told.{Goes}
 use Rattle.hms_outside.specs.declared.outage.Outage.{Outage}
-use Rattle.hms_outside.specs.declared.outage.Outage.TheVariants.{Failed, NoMemory}
+use Rattle.hms_outside.specs.declared.outage.Outage.TheVariants.{Failed}
 use Rattle.ms_server.specs.declared.post.Post.{Post}
 use Rattle.ms_session.specs.Session.{Met, Session}
-use Rattle.ms_session.specs.Turns.{Files}
+use Rattle.ms_session.specs.Turns.{Files, Shelf, shelf_of}
 use Rattle.ms_session.specs.declared.end.End.{End}
 use Rattle.ms_session.specs.declared.end.End.TheVariants.{ReadFault, WriteFault}
 
--- what a worker meets outside, as far as it is known: the inputs of the connections to come, those that were handed back, how often its listener has failed, the moments of its clock, and the files of its folder
+-- what a worker meets outside, as far as it is known: the inputs of the connections to come, those that were handed back, how often its listener has failed, the moments of its clock, and what is told of its folder
 pub record Around : Type 0 where
   pub inputs : Option (List (List ℕ))
   pub returned : Option (List Returned)
   pub faults : ℕ
   pub clock : Option (List ℕ)
-  pub files : Option Files
+  pub shelf : Shelf
 
 -- what is around a worker's post, by what its listener, its folder and its clock tell
-abbrev pub around : {L F K : Type 0} → (L → Option (List (List ℕ))) → (L → Option (List Returned)) → (L → ℕ) → (F → Option Files) → (K → Option (List ℕ)) → Post L F K → Around
-around inputs returned faults files moments post = record { inputs = inputs post.listener; returned = returned post.listener; faults = faults post.listener; clock = moments post.clock; files = files post.folder }
+abbrev pub around : {L F K : Type 0} → (L → Option (List (List ℕ))) → (L → Option (List Returned)) → (L → ℕ) → (F → Option Files) → (F → ℕ) → (K → Option (List ℕ)) → Post L F K → Around
+around inputs returned faults files folder_faults moments post = record { inputs = inputs post.listener; returned = returned post.listener; faults = faults post.listener; clock = moments post.clock; shelf = shelf_of (files post.folder) (folder_faults post.folder) }
 
 -- one connection: what its session met at its beginning and at its end, its entries and its end, how often its source and its sink had failed when it was handed back, and what the worker met behind it
 pub record Visit : Type 0 where
@@ -40,11 +40,11 @@ pub record IsVisit (v : Visit) (old : Around) : Type 0 where
   pub input : HandsOut old.inputs v.behind.inputs v.before.left
   pub empty : HoldsNothing v.before.held
   pub clock : v.before.clock ≡ old.clock
-  pub files : v.before.files ≡ old.files
+  pub shelf : v.before.shelf ≡ old.shelf
   pub session : Session v.before v.after v.entries v.ended
   pub back : Goes (Appended (as_returned v.after.held v.source_faults v.sink_faults)) old.returned v.behind.returned
   pub clock_behind : v.behind.clock ≡ v.after.clock
-  pub files_behind : v.behind.files ≡ v.after.files
+  pub shelf_behind : v.behind.shelf ≡ v.after.shelf
   pub faults : v.behind.faults ≡ old.faults
   pub read : v.ended ≡ ReadFault → 0 < v.source_faults
   pub write : v.ended ≡ WriteFault → 0 < v.sink_faults
@@ -66,7 +66,7 @@ pub record Refused (fault : Outage) (old new : Around) : Type 0 where
   pub inputs : new.inputs ≡ old.inputs
   pub returned : new.returned ≡ old.returned
   pub clock : new.clock ≡ old.clock
-  pub files : new.files ≡ old.files
+  pub shelf : new.shelf ≡ old.shelf
   pub later : old.faults ≤ new.faults
   pub cause : fault ≡ Failed → Rose old.faults new.faults
 
@@ -102,4 +102,4 @@ pub record Worked (sessions : Option ℕ) (old new : Around) (status : ℕ) (ent
   pub inputs : new.inputs ≡ last.inputs
   pub returned : new.returned ≡ last.returned
   pub clock : new.clock ≡ last.clock
-  pub files : new.files ≡ last.files
+  pub shelf : new.shelf ≡ last.shelf

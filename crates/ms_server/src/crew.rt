@@ -99,12 +99,12 @@ where
     requires some { 0 < vec_len workers.old }
     requires ready { Placed (λ k w. Ready posts.now.value.items k (caller_of w.desk.pass) w.post (seen_of w.desk.pass)) workers.old.items }
     ensures len { vec_len workers.new ≡ vec_len workers.old }
-    ensures ran { Placed (λ k w. Ran (around L.inputs L.returned L.faults F.files K.moments) sessions posts.now.value.items k (caller_of w.desk.pass) w.post w.status (seen_of w.desk.pass)) workers.new.items }
+    ensures ran { Placed (λ k w. Ran (around L.inputs L.returned L.faults F.files F.faults K.moments) sessions posts.now.value.items k (caller_of w.desk.pass) w.post w.status (seen_of w.desk.pass)) workers.new.items }
 {
     let count = workers.len();
     let each = |place: usize, worker: &mut Worker<'_, R, G, C, B, L, F, K>|
         requires { Ready posts.now.value.items place (caller_of worker.now.desk.pass) worker.now.post (seen_of worker.now.desk.pass) }
-        ensures { Ran (around L.inputs L.returned L.faults F.files K.moments) sessions posts.entry.now.value.items place (caller_of worker.exit.now.desk.pass) worker.exit.now.post worker.exit.now.status (seen_of worker.exit.now.desk.pass) }
+        ensures { Ran (around L.inputs L.returned L.faults F.files F.faults K.moments) sessions posts.entry.now.value.items place (caller_of worker.exit.now.desk.pass) worker.exit.now.post worker.exit.now.status (seen_of worker.exit.now.desk.pass) }
     { run_one(alloc, sessions, place, posts, worker) };
     thread::for_each_mut(rt, workers.as_mut_slice(), count, &each);
 }
@@ -141,7 +141,7 @@ where
     ensures inside { is_out first.new ≡ false }
     ensures splits { MatchResult result (λ _. splits_of first.new ≡ length posts.items) (λ _. splits_of first.new ≡ 0) }
     ensures joins { joins_of first.new ≡ splits_of first.new }
-    ensures joined { IfOk result (λ crew. AllJoined (around L.inputs L.returned L.faults F.files K.moments) sessions 1 posts.items (joined_of first.new) crew.done.items) }
+    ensures joined { IfOk result (λ crew. AllJoined (around L.inputs L.returned L.faults F.files F.faults K.moments) sessions 1 posts.items (joined_of first.new) crew.done.items) }
     ensures steps { IfOk result (λ crew. crew.steps ≡ all_calls (joined_of first.new) % 2 ^ 64) }
     ensures err { IfErr result (λ left. left ≡ posts) }
 {
@@ -198,7 +198,7 @@ where
     requires few { (0 < vec_len posts) × (vec_len posts < 4294967294) }
     ensures start { MatchResult result (λ r. C.start r.0 ≡ C.start core) (λ r. C.start r.0 ≡ C.start core) }
     ensures legal { MatchResult result (λ r. Legal (C.start r.0) (C.history r.0)) (λ r. Legal (C.start r.0) (C.history r.0)) }
-    ensures did { IfOk result (λ r. AllDid (around L.inputs L.returned L.faults F.files K.moments) sessions (C.history r.0) 1 posts.items r.1.done.items) }
+    ensures did { IfOk result (λ r. AllDid (around L.inputs L.returned L.faults F.files F.faults K.moments) sessions (C.history r.0) 1 posts.items r.1.done.items) }
     ensures nobody { IfOk result (λ r. (caller : ℕ) → (caller ≡ 0) ⊎ (length posts.items < caller) → own caller (C.history r.0) ≡ []) }
     ensures steps { IfOk result (λ r. r.1.steps ≡ length (C.history r.0) % 2 ^ 64) }
     ensures unused { IfErr result (λ r. C.history r.0 ≡ []) }

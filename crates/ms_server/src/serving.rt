@@ -22,7 +22,7 @@ pub fn work<D: Desk, L: Listener, F: Folder, K: Clock>(
     post: &mut Post<L, F, K>,
 ) -> u8
     ensures caller { D.caller desk.new ≡ D.caller desk.old }
-    ensures worked { Adds D.alone (D.caller desk.old) (D.history desk.old) (D.history desk.new) (Worked sessions (around L.inputs L.returned L.faults F.files K.moments post.old) (around L.inputs L.returned L.faults F.files K.moments post.new) result) }
+    ensures worked { Adds D.alone (D.caller desk.old) (D.history desk.old) (D.history desk.new) (Worked sessions (around L.inputs L.returned L.faults F.files F.faults K.moments post.old) (around L.inputs L.returned L.faults F.files F.faults K.moments post.new) result) }
 {
     match serve_many(alloc, sessions.unwrap_or(u64::MAX), desk, post) {
         Ok(()) => { if sessions.is_some() { 0 } else { 10 } }
@@ -39,7 +39,7 @@ fn serve_many<D: Desk, L: Listener, F: Folder, K: Clock>(
     post: &mut Post<L, F, K>,
 ) -> Result<(), Outage>
     ensures caller { D.caller desk.new ≡ D.caller desk.old }
-    ensures visits { Adds D.alone (D.caller desk.old) (D.history desk.old) (D.history desk.new) (VisitsMany limit (around L.inputs L.returned L.faults F.files K.moments post.old) (around L.inputs L.returned L.faults F.files K.moments post.new) result) }
+    ensures visits { Adds D.alone (D.caller desk.old) (D.history desk.old) (D.history desk.new) (VisitsMany limit (around L.inputs L.returned L.faults F.files F.faults K.moments post.old) (around L.inputs L.returned L.faults F.files F.faults K.moments post.new) result) }
 {
     for _ in 0..limit {
         match serve_one(alloc, desk, post) {
@@ -57,7 +57,7 @@ fn serve_one<D: Desk, L: Listener, F: Folder, K: Clock>(
     post: &mut Post<L, F, K>,
 ) -> Result<(), Outage>
     ensures caller { D.caller desk.new ≡ D.caller desk.old }
-    ensures visits { Adds D.alone (D.caller desk.old) (D.history desk.old) (D.history desk.new) (Visits (around L.inputs L.returned L.faults F.files K.moments post.old) (around L.inputs L.returned L.faults F.files K.moments post.new) result) }
+    ensures visits { Adds D.alone (D.caller desk.old) (D.history desk.old) (D.history desk.new) (Visits (around L.inputs L.returned L.faults F.files F.faults K.moments post.old) (around L.inputs L.returned L.faults F.files F.faults K.moments post.new) result) }
 {
     let (mut rx, mut tx) = post.listener.accept()?;
     serve_session(

@@ -36,7 +36,7 @@ pub fn run_one<R: Wait, G: Gate, C: Core, B: Room, L: Listener, F: Folder, K: Cl
     worker: &mut Worker<'_, R, G, C, B, L, F, K>,
 )
     requires ready { Ready _posts.now.value.items _place (caller_of worker.old.desk.pass) worker.old.post (seen_of worker.old.desk.pass) }
-    ensures ran { Ran (around L.inputs L.returned L.faults F.files K.moments) sessions _posts.now.value.items _place (caller_of worker.new.desk.pass) worker.new.post worker.new.status (seen_of worker.new.desk.pass) }
+    ensures ran { Ran (around L.inputs L.returned L.faults F.files F.faults K.moments) sessions _posts.now.value.items _place (caller_of worker.new.desk.pass) worker.new.post worker.new.status (seen_of worker.new.desk.pass) }
 {
     serve_worker(alloc, sessions, worker);
 }
@@ -49,7 +49,7 @@ fn serve_worker<R: Wait, G: Gate, C: Core, B: Room, L: Listener, F: Folder, K: C
 )
     requires fresh { seen_of worker.old.desk.pass ≡ [] }
     ensures caller { caller_of worker.new.desk.pass ≡ caller_of worker.old.desk.pass }
-    ensures worked { Worked sessions (around L.inputs L.returned L.faults F.files K.moments worker.old.post) (around L.inputs L.returned L.faults F.files K.moments worker.new.post) worker.new.status (own (caller_of worker.new.desk.pass) (seen_of worker.new.desk.pass)) }
+    ensures worked { Worked sessions (around L.inputs L.returned L.faults F.files F.faults K.moments worker.old.post) (around L.inputs L.returned L.faults F.files F.faults K.moments worker.new.post) worker.new.status (own (caller_of worker.new.desk.pass) (seen_of worker.new.desk.pass)) }
 {
     worker.status = work(alloc, sessions, &mut worker.desk, &mut worker.post);
 }
@@ -69,12 +69,12 @@ pub fn gather<R, G, C: Core, B: Room, L: Listener, F: Folder, K: Clock>(
     requires room { vec_len crew.old.done + deque_len workers ≤ vec_capacity crew.old.done }
     requires none { (crew.old.done.items ≡ []) × (crew.old.steps ≡ 0) × (joined_of first.old ≡ []) }
     requires len { deque_len workers ≡ length _posts.now.value.items }
-    requires ran { Placed (λ k w. Ran (around L.inputs L.returned L.faults F.files K.moments) _sessions _posts.now.value.items k (caller_of w.desk.pass) w.post w.status (seen_of w.desk.pass)) workers.items }
+    requires ran { Placed (λ k w. Ran (around L.inputs L.returned L.faults F.files F.faults K.moments) _sessions _posts.now.value.items k (caller_of w.desk.pass) w.post w.status (seen_of w.desk.pass)) workers.items }
     ensures same { IsSamePass first.old first.new }
     ensures past { past_of first.new ≡ past_of first.old }
     ensures inside { is_out first.new ≡ false }
     ensures counts { (splits_of first.new ≡ splits_of first.old) × (joins_of first.new ≡ joins_of first.old + deque_len workers.entry) }
-    ensures joined { AllJoined (around L.inputs L.returned L.faults F.files K.moments) _sessions 1 _posts.now.value.items (joined_of first.new) crew.new.done.items }
+    ensures joined { AllJoined (around L.inputs L.returned L.faults F.files F.faults K.moments) _sessions 1 _posts.now.value.items (joined_of first.new) crew.new.done.items }
     ensures steps { crew.new.steps ≡ all_calls (joined_of first.new) % 2 ^ 64 }
 {
     while let Some(worker) = workers.pop_front() {

@@ -1,5 +1,5 @@
 -- A caller alone at a new store.
-use Rattle.std.proofs.Common.{◌≡◌, ℕ, ◌+◌, ◌⊎◌, Bool, true, false, not, ◌||◌, List, [], ◌∷◌, ◌++◌, map, codes, Option, Some, None, is_some, refl, sym, ◌∙◌, ap, subst, inl, inr}
+use Rattle.std.proofs.Common.{◌≡◌, ℕ, ◌+◌, ◌==◌, ◌⊎◌, Bool, true, false, not, ◌||◌, List, [], ◌∷◌, ◌++◌, map, codes, Option, Some, None, is_some, refl, sym, ◌∙◌, ap, subst, inl, inr}
 use Rattle.std.specs.Prelude.{⊤, cond}
 use Rattle.std.proofs.lemmas.Bool.{false≢true}
 use Rattle.std.proofs.lemmas.Map.{keys-set_value}
@@ -41,20 +41,22 @@ use Rattle.rulings.specs.Changes.{part_change, table_born}
 use Rattle.rulings.specs.Meant.{by_name, by_values, meant_values}
 use Rattle.catalogue.specs.Rules.{breaks, first_refusal, lacks_number, refusal, result_of, rules_of}
 use Rattle.stat_rules.specs.Records.{StatMap}
-use Rattle.stat_rules.specs.Statistics.{part_deleted, part_given, part_updated, said_db, said_part, said_table, said_text, said_at, table_deleted, table_given, table_updated, part_changed, table_changed, unless_empty}
+use Rattle.stat_rules.specs.Statistics.{part_deleted, part_given, part_updated, said_db, said_table, table_deleted, table_given, table_updated, unless_empty}
 use Rattle.table_rules.specs.Tables.{renames, table_altered, table_created, table_dropped, table_put}
 use Rattle.rulings.specs.declared.bars.Bars.{Bars}
 use Rattle.cat_objects.specs.declared.held.HeldDb.{HeldDb}
 use Rattle.cat_objects.specs.declared.held.HeldTable.{HeldTable}
 use Rattle.rulings.specs.declared.refusal.Refusal.{Refusal}
 use Rattle.desk.specs.History.{Entry, IsLegal, MayFollow, Point, next, point_of, took}
-use Rattle.desk.specs.State.{State, MayAnswer, bars_of, due as due_in, kept, next_event, start, state_after_answer, with_written, writes, written_by}
+use Rattle.cat_types.specs.declared.steps.DumpRefusal.{DumpRefusal}
+use Rattle.desk.specs.State.{State, MayAnswer, asked_for, bars_of, drawn_by, due as due_in, first_after_trim, is_refused, refused_dump, written_first, kept, next_event, start, state_after_answer, trimmed, with_written, writes, written_by}
 use Rattle.ms_calls.specs.declared.request.Asked.{Asked}
 use Rattle.ms_calls.specs.declared.request.Asked.TheVariants as ask
 use Rattle.ms_calls.specs.Refusals.{out_of_memory}
 use Rattle.ms_session.specs.Laws.{AloneListsDefault, Lists, MakesNone}
 use Rattle.ms_session.specs.Requests.{asks}
-use Rattle.ms_session.specs.Turns.{Due, Files, IsReplyTo, IsTurn, Turn}
+use Rattle.ms_session.specs.Turns.{Due, IsReplyTo, IsTurn, Shelf, Turn}
+use Rattle.ms_session.proofs.Dumping.{IsNoCall, NoCalls, in_dump}
 use Rattle.ms_session.proofs.Results.{reply_in}
 
 abbrev names : List (List ℕ)
@@ -395,6 +397,37 @@ stays p caller call moment (answer.DumpRefused refusal) none has = leaves p.stat
 stays p caller call moment (answer.Kept first) none has = leaves p.state caller call moment none has
 stays p caller call moment answer.NotOpen none has = leaves p.state caller call moment none has
 
+-- ---- what steps of dumps and trims leave
+
+-- the number of a dump and the first kept number are no part of the catalogue
+drawn_keeps : (s : State) (o : Option DumpRefusal) → (with_written (drawn_by o s.last_dump) s).catalogue ≡ s.catalogue
+drawn_keeps s None = refl
+drawn_keeps s (Some refusal) = refl
+
+trimmed_keeps : (s : State) (first : ℕ) → (with_written (written_first s.first first) s).catalogue ≡ s.catalogue
+trimmed_keeps s first = by_test (s.first == first)
+  where
+    by_test : (b : Bool) → (with_written (cond b None (Some (trimmed first))) s).catalogue ≡ s.catalogue
+    by_test true = refl
+    by_test false = refl
+
+no_call_keeps : (s : State) (caller : ℕ) (t : Step) → IsNoCall t → (due_in s caller t).state.catalogue ≡ s.catalogue
+no_call_keeps s caller (step.Client call moment) free = absurd free
+no_call_keeps s caller (step.DumpBegin db from to limit) free = drawn_keeps s (refused_dump s db (asked_for from to limit))
+no_call_keeps s caller (step.DumpTable dump after) free = refl
+no_call_keeps s caller (step.DumpParts dump table born after) free = refl
+no_call_keeps s caller (step.DumpSeal dump) free = refl
+no_call_keeps s caller (step.DumpEvents dump after) free = refl
+no_call_keeps s caller (step.DumpEnd dump) free = refl
+no_call_keeps s caller (step.Trim upto) free = trimmed_keeps s (first_after_trim s upto)
+
+no_call_stays : (s : State) (caller : ℕ) (t : Step) (a : Answer) → IsNoCall t → HasDefault s.catalogue → HasDefault (state_after_answer s caller t a).catalogue
+no_call_stays s caller t a free has = by_test (is_refused a)
+  where
+    by_test : (b : Bool) → HasDefault (cond b s (due_in s caller t).state).catalogue
+    by_test true = has
+    by_test false = ap (λ (cat : Catalogue). keys_of cat.databases) (no_call_keeps s caller t free) ∙ has
+
 -- ---- messages
 
 -- where the history stands behind the entries of a message
@@ -402,7 +435,7 @@ abbrev Behind : List Entry → Type 0
 Behind more = (q : Point) × HasDefault q.state.catalogue × IsLegal q (map took more)
 
 -- a call of the catalogue that makes no database
-one_call : (p : Point) (call : Call) (entries more : List Entry) (before after : Option Files) (due reply : Reply) → HasDefault p.state.catalogue → MakesNone (ask.Client call) → IsLegal p (map took (entries ++ more)) → Due (ask.Client call) entries before after due → (reply ≡ due) ⊎ (reply ≡ out_of_memory)
+one_call : (p : Point) (call : Call) (entries more : List Entry) (before after : Shelf) (due reply : Reply) → HasDefault p.state.catalogue → MakesNone (ask.Client call) → IsLegal p (map took (entries ++ more)) → Due (ask.Client call) entries before after due → (reply ≡ due) ⊎ (reply ≡ out_of_memory)
     → Lists names (ask.Client call) reply × Behind more
 one_call p call entries more before after due reply has none legal d which =
     let all : IsLegal p (map took ((d.0 ∷ []) ++ more)) = subst (λ (es : List Entry). IsLegal p (map took (es ++ more))) d.2 legal in
@@ -413,9 +446,16 @@ one_call p call entries more before after due reply has none legal d which =
 no_call : (p : Point) (entries more : List Entry) → HasDefault p.state.catalogue → IsLegal p (map took (entries ++ more)) → entries ≡ [] → Behind more
 no_call p entries more has legal is = (p, has, subst (λ (es : List Entry). IsLegal p (map took (es ++ more))) is legal)
 
-one_message : (p : Point) (asked : Asked) (entries more : List Entry) (before after : Option Files) (due reply : Reply) → HasDefault p.state.catalogue → MakesNone asked → IsLegal p (map took (entries ++ more)) → Due asked entries before after due → (reply ≡ due) ⊎ (reply ≡ out_of_memory)
+-- what takes no step that is a call
+steps_behind : (p : Point) (entries more : List Entry) → HasDefault p.state.catalogue → IsLegal p (map took (entries ++ more)) → NoCalls entries → Behind more
+steps_behind p [] more has legal none = (p, has, legal)
+steps_behind p (e ∷ es) more has legal none = steps_behind (next p (took e)) es more (no_call_stays p.state e.0.caller e.0.step e.1.answer none.0 has) legal.1 none.1
+
+one_message : (p : Point) (asked : Asked) (entries more : List Entry) (before after : Shelf) (due reply : Reply) → HasDefault p.state.catalogue → MakesNone asked → IsLegal p (map took (entries ++ more)) → Due asked entries before after due → (reply ≡ due) ⊎ (reply ≡ out_of_memory)
     → Lists names asked reply × Behind more
 one_message p (ask.Client call) entries more before after due reply has none legal d which = one_call p call entries more before after due reply has none legal d which
+one_message p (ask.Dump db from to limit) entries more before after due reply has none legal d which = (tt, steps_behind p entries more has legal (in_dump _ d.0 before.files after.files entries d.1.dumps))
+one_message p (ask.Trim upto) entries more before after due reply has none legal d which = (tt, steps_behind p entries more has legal (subst NoCalls (sym d.1) (subst IsNoCall (sym d.2) tt, tt)))
 one_message p (ask.Plain r) entries more before after due reply has none legal d which = (tt, no_call p entries more has legal d.0)
 one_message p ask.Unknown entries more before after due reply has none legal d which = (tt, no_call p entries more has legal d.0)
 one_message p (ask.BadArgument id) entries more before after due reply has none legal d which = (tt, no_call p entries more has legal d.0)
@@ -429,5 +469,5 @@ all_turns p (t ∷ ts) new each none legal =
     (one.0, all_turns one.1.0 ts one.1.1 each.1 none.1 one.1.2)
 
 pub lists_default : AloneListsDefault
-lists_default id base turns bytes clock clock' files files' entries carried legal none =
+lists_default id base turns bytes clock clock' shelf shelf' entries carried legal none =
     all_turns (point_of (record { state = start id base; fault = 0; past = [] })) turns refl carried.each none (subst (λ (es : List Entry). IsLegal (point_of (record { state = start id base; fault = 0; past = [] })) (map took es)) carried.own legal)

@@ -393,7 +393,7 @@ answers_call s before caller after call moment answer.NotOpen may = absurd cc
 
 -- ---- the last answer of a legal history
 
-last_may : (p : Point) (es : List Entry) (e : Entry) → IsLegal p (map took (es ++ e ∷ [])) → (q : Point) × MayFollow q (took e)
+pub last_may : (p : Point) (es : List Entry) (e : Entry) → IsLegal p (map took (es ++ e ∷ [])) → (q : Point) × MayFollow q (took e)
 last_may p [] e legal = (p, legal.0)
 last_may p (x ∷ xs) e legal = last_may (next p (took x)) xs e legal.1
 

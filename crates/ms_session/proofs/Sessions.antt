@@ -56,12 +56,12 @@ pub record SoFar (old new : Met) (place : ℕ) (entries : List Entry) : Type 0 w
   pub bytes : List ℕ
   pub lost : Consumes old.left new.left bytes
   pub here : place ≡ length bytes
-  pub carried : Carried turns bytes old.clock new.clock old.files new.files entries
+  pub carried : Carried turns bytes old.clock new.clock old.shelf new.shelf entries
   pub replied : Goes (Replied (replies_of turns)) old.held new.held
 
 -- the same, but for what the source has left
 abbrev pub later : Met → Option (List ℕ) → Met
-later met left = record { left = left; held = met.held; clock = met.clock; files = met.files }
+later met left = record { left = left; held = met.held; clock = met.clock; shelf = met.shelf }
 
 -- nothing so far
 pub nothing_yet : (met : Met) (place : ℕ) → place ≡ 0 → SoFar met met place []
@@ -80,23 +80,23 @@ nothing_yet met place at = record {
 
 -- ---- one message more
 
--- a message that was taken, with its entries, the files before and after it, and its reply
+-- a message that was taken, with its entries, the folder before and after it, and its reply
 abbrev turn_of : (met new : Met) (p q : Progress) (request : Request) → Took met.left new.left (fresh p) q (Came request) → List Entry → Reply → Turn
-turn_of met new p q request took entries reply = record { message = took.holds.message; entries = entries; before = met.files; after = new.files; reply = reply }
+turn_of met new p q request took entries reply = record { message = took.holds.message; entries = entries; before = met.shelf; after = new.shelf; reply = reply }
 
 -- it was carried out behind others
 one_carried : (old met new : Met) (p q : Progress) (xs ys : List Entry) (request : Request) (so_far : SoFar old met p.place xs) (took : Took met.left new.left (fresh p) q (Came request))
-    → (Went : Head → Reply → Option Held → Option Held → Type 0) (answers : AnswersBy Went request ys met.clock new.clock met.files new.files met.held new.held)
-    → Carried (so_far.turns ++ turn_of met new p q request took ys answers.1 ∷ []) (so_far.bytes ++ took.bytes) old.clock new.clock old.files new.files (xs ++ ys)
+    → (Went : Head → Reply → Option Held → Option Held → Type 0) (answers : AnswersBy Went request ys met.clock new.clock met.shelf new.shelf met.held new.held)
+    → Carried (so_far.turns ++ turn_of met new p q request took ys answers.1 ∷ []) (so_far.bytes ++ took.bytes) old.clock new.clock old.shelf new.shelf (xs ++ ys)
 one_carried old met new p q xs ys request so_far took Went answers =
     let turn = turn_of met new p q request took ys answers.1 in
     let fits : length took.bytes ≤ room_at p.place = omega (arith, took.within) in
-    let is : IsTurn turn = (answers.0, subst (λ (a : Asked). Due a ys met.files new.files answers.0) (sym took.holds.asked) answers.2, answers.3) in
-    carried_more so_far.turns turn so_far.bytes took.bytes old.clock met.clock new.clock old.files met.files xs ys so_far.carried took.holds.spelled (subst (λ (n : ℕ). length took.bytes ≤ room_at n) so_far.here fits) is refl answers.4 refl
+    let is : IsTurn turn = (answers.0, subst (λ (a : Asked). Due a ys met.shelf new.shelf answers.0) (sym took.holds.asked) answers.2, answers.3) in
+    carried_more so_far.turns turn so_far.bytes took.bytes old.clock met.clock new.clock old.shelf met.shelf xs ys so_far.carried took.holds.spelled (subst (λ (n : ℕ). length took.bytes ≤ room_at n) so_far.here fits) is refl answers.4 refl
 
 -- one more message was carried out, and answered whole
 pub one_more : (old met new : Met) (p q : Progress) (xs ys : List Entry) (request : Request) → SoFar old met p.place xs → Took met.left new.left (fresh p) q (Came request)
-    → AnswersBy Replies request ys met.clock new.clock met.files new.files met.held new.held → SoFar old new q.place (xs ++ ys)
+    → AnswersBy Replies request ys met.clock new.clock met.shelf new.shelf met.held new.held → SoFar old new q.place (xs ++ ys)
 one_more old met new p q xs ys request so_far took answers =
     let turn = turn_of met new p q request took ys answers.1 in
     record {
@@ -110,7 +110,7 @@ one_more old met new p q xs ys request so_far took answers =
 
 -- one more message was carried out, and not answered whole
 pub one_part : (old met new : Met) (p q : Progress) (xs ys : List Entry) (request : Request) → SoFar old met p.place xs → Took met.left new.left (fresh p) q (Came request)
-    → AnswersBy Begins request ys met.clock new.clock met.files new.files met.held new.held → Interrupted old new (xs ++ ys)
+    → AnswersBy Begins request ys met.clock new.clock met.shelf new.shelf met.held new.held → Interrupted old new (xs ++ ys)
 one_part old met new p q xs ys request so_far took answers =
     let begins = subst (λ (h : Head). Begins h answers.1 met.held new.held) (sym took.holds.head) answers.5 in
     record {

@@ -13,7 +13,7 @@ use Rattle.thrift_binary.specs.Messages.{Message, Asks, IsMessage, AreMessages}
 use Rattle.thrift_binary.specs.Taking.{room_at}
 use Rattle.thrift_binary.proofs.OneText.{one_more}
 use Rattle.ms_session.specs.Replies.{reply_bytes, sent_for}
-use Rattle.ms_session.specs.Turns.{Carried, Files, FilesPass, IsTurn, Replied, Replies, Timed, Turn, ends_of, moments_in, moments_of, replies_of}
+use Rattle.ms_session.specs.Turns.{Carried, IsTurn, Replied, Replies, Shelf, ShelfPasses, Timed, Turn, ends_of, moments_in, moments_of, replies_of}
 
 -- ---- moments
 
@@ -30,9 +30,9 @@ timed-append : (ms ns : List ℕ) (a b c : Option (List ℕ)) → Timed ms a b �
 timed-append [] ns a b c first second = timed_same ns a b c first second
 timed-append (m ∷ ms) ns a b c first second = (first.0, first.1, timed-append ms ns first.0 b c first.2 second)
 
--- ---- files
+-- ---- the folder
 
-passed_more : (turns : List Turn) (turn : Turn) (a b : Option Files) → FilesPass turns a b → turn.before ≡ b → FilesPass (turns ++ turn ∷ []) a turn.after
+passed_more : (turns : List Turn) (turn : Turn) (a b : Shelf) → ShelfPasses turns a b → turn.before ≡ b → ShelfPasses (turns ++ turn ∷ []) a turn.after
 passed_more [] turn a b so_far from = (from ∙ so_far, refl)
 passed_more (t ∷ ts) turn a b so_far from = (so_far.0, passed_more ts turn t.after b so_far.1 from)
 
@@ -53,7 +53,7 @@ own_more : (turns : List Turn) (turn : Turn) → flat_map (λ t. t.entries) (tur
 own_more turns turn = flat_map-append (λ t. t.entries) turns (turn ∷ []) ∙ ap (λ (es : List Entry). flat_map (λ t. t.entries) turns ++ es) (append-nil turn.entries)
 
 -- one more message was carried out
-pub carried_more : (turns : List Turn) (turn : Turn) (front rest : List ℕ) (a b c : Option (List ℕ)) (f g : Option Files) (xs ys : List Entry)
+pub carried_more : (turns : List Turn) (turn : Turn) (front rest : List ℕ) (a b c : Option (List ℕ)) (f g : Shelf) (xs ys : List Entry)
     → Carried turns front a b f g xs → IsMessage Asks turn.message rest → length rest ≤ room_at (length front) → IsTurn turn → turn.entries ≡ ys → Timed (moments_of ys) b c → turn.before ≡ g
     → Carried (turns ++ turn ∷ []) (front ++ rest) a c f turn.after (xs ++ ys)
 carried_more turns turn front rest a b c f g xs ys so_far message within is own timed from = record {

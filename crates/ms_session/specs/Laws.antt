@@ -14,7 +14,7 @@ use Rattle.ms_calls.specs.declared.request.Asked.TheVariants as ask
 use Rattle.ms_calls.specs.Refusals.{out_of_memory}
 use Rattle.ms_session.specs.Requests.{asks}
 use Rattle.ms_session.specs.Session.{Met, Session}
-use Rattle.ms_session.specs.Turns.{Carried, Files, Replied, Turn, replies_of}
+use Rattle.ms_session.specs.Turns.{Carried, Replied, Shelf, Turn, replies_of}
 use Rattle.ms_session.specs.declared.end.End.{End}
 use Rattle.ms_session.specs.declared.end.End.TheVariants.{Done, Shutdown, Truncated, BadWire, TooLarge, ReadFault, WriteFault, NoMemory}
 
@@ -25,7 +25,7 @@ pub record AllAnswered (old new : Met) (entries : List Entry) (messages : List M
   pub turns : List Turn
   pub bytes : List ℕ
   pub are : map (λ turn. turn.message) turns ≡ messages
-  pub carried : Carried turns bytes old.clock new.clock old.files new.files entries
+  pub carried : Carried turns bytes old.clock new.clock old.shelf new.shelf entries
   pub replied : Goes (Replied (replies_of turns)) old.held new.held
 
 -- a session over a text that spells these messages, and ends so, answered them all, and ended as the text does; or one of them asked for its end, and those before it were answered; or something outside failed, or memory was refused
@@ -93,6 +93,8 @@ MakesNone (ask.Client (DeletePartitionColumnStatistics db name part col)) = ⊤
 MakesNone (ask.Client (GetTableStatisticsReq db name cols)) = ⊤
 MakesNone (ask.Client (GetNextNotification last max)) = ⊤
 MakesNone (ask.Client GetCurrentNotificationEventId) = ⊤
+MakesNone (ask.Dump db from to limit) = ⊤
+MakesNone (ask.Trim upto) = ⊤
 MakesNone (ask.Plain reply) = ⊤
 MakesNone ask.Unknown = ⊤
 MakesNone (ask.BadArgument id) = ⊤
@@ -144,6 +146,8 @@ Lists names (ask.Client (DeletePartitionColumnStatistics db name part col)) repl
 Lists names (ask.Client (GetTableStatisticsReq db name cols)) reply = ⊤
 Lists names (ask.Client (GetNextNotification last max)) reply = ⊤
 Lists names (ask.Client GetCurrentNotificationEventId) reply = ⊤
+Lists names (ask.Dump db from to limit) reply = ⊤
+Lists names (ask.Trim upto) reply = ⊤
 Lists names (ask.Plain answer) reply = ⊤
 Lists names ask.Unknown reply = ⊤
 Lists names (ask.BadArgument id) reply = ⊤
@@ -151,6 +155,6 @@ Lists names ask.Shutdown reply = ⊤
 
 -- where the messages of one caller are all that a new store went through, and none asks for a new database, each listing names `default` alone, if that
 abbrev pub AloneListsDefault : Type 0
-AloneListsDefault = (id : List ℕ) (base : ℕ) (turns : List Turn) (bytes : List ℕ) (clock clock' : Option (List ℕ)) (files files' : Option Files) (entries : List Entry)
-    → Carried turns bytes clock clock' files files' entries → Legal (record { state = start id base; fault = 0; past = [] }) entries → AllByRecursion (λ turn. MakesNone (asks turn.message)) turns
+AloneListsDefault = (id : List ℕ) (base : ℕ) (turns : List Turn) (bytes : List ℕ) (clock clock' : Option (List ℕ)) (shelf shelf' : Shelf) (entries : List Entry)
+    → Carried turns bytes clock clock' shelf shelf' entries → Legal (record { state = start id base; fault = 0; past = [] }) entries → AllByRecursion (λ turn. MakesNone (asks turn.message)) turns
     → AllByRecursion (λ turn. Lists (codes "default" ∷ []) (asks turn.message) turn.reply) turns

@@ -1,7 +1,7 @@
 -- Messages, and what they ask.
 use Rattle.std.specs.Prelude.{◌≡◌, ⊤, ℕ, List, [], Option, None, Some}
 use Rattle.thrift_binary.specs.Messages.{Message, Asks, IsMessage}
-use Rattle.ms_calls.specs.Asked.{CameAs, IfClient, IfPlain, asked_of}
+use Rattle.ms_calls.specs.Asked.{CameAs, HasOwnMethod, IfClient, IfPlain, asked_of}
 use Rattle.ms_calls.specs.Methods.{method_named}
 use Rattle.ms_calls.specs.Replies.{CanReply}
 use Rattle.ms_calls.specs.declared.request.Asked.{Asked}
@@ -26,6 +26,6 @@ SaysRequest (Some message) (Some request) = IsRequestOf message request
 SaysRequest None (Some request) = ⊥
 SaysRequest (Some message) None = ⊥
 
--- what a request asks came under its own name: its method is the named one, a plain reply is one that the call can have, and a call of the catalogue is made by the method
+-- what a request asks came under its own name: its method is the named one, a plain reply is one that the call can have, a call of the catalogue is made by the method, and a dump and a trim have a method of their own
 abbrev pub CameUnderItsName : Request → Type 0
-CameUnderItsName request = (request.method ≡ method_named request.head.name) × IfPlain request.asked (CanReply request.method) × IfClient request.asked (CameAs request.method)
+CameUnderItsName request = (request.method ≡ method_named request.head.name) × IfPlain request.asked (CanReply request.method) × IfClient request.asked (CameAs request.method) × HasOwnMethod request.method request.asked

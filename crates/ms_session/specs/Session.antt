@@ -10,16 +10,16 @@ use Rattle.thrift_binary.specs.Messages.{Message, Asks, IsMessage, StopsMessage,
 use Rattle.thrift_binary.specs.Taking.{Stop, Cut, Bad, Large, room_at}
 use Rattle.ms_calls.specs.declared.request.Asked.TheVariants as ask
 use Rattle.ms_session.specs.Requests.{asks}
-use Rattle.ms_session.specs.Turns.{Carried, Files, Replied, RepliedPart, Turn, replies_of, turn_bytes}
+use Rattle.ms_session.specs.Turns.{Carried, Replied, RepliedPart, Shelf, Turn, replies_of, turn_bytes}
 use Rattle.ms_session.specs.declared.end.End.{End}
 use Rattle.ms_session.specs.declared.end.End.TheVariants.{Done, Shutdown, Truncated, BadWire, TooLarge, ReadFault, WriteFault, NoMemory}
 
--- what a session meets outside, at its beginning and at its end: what its source has left, what its sink holds, the moments that its clock will answer, and the files of its folder, as far as each is known
+-- what a session meets outside, at its beginning and at its end: what its source has left, what its sink holds, the moments that its clock will answer, as far as each is known, and what is told of its folder
 pub record Met : Type 0 where
   pub left : Option (List ℕ)
   pub held : Option Held
   pub clock : Option (List ℕ)
-  pub files : Option Files
+  pub shelf : Shelf
 
 -- what the source lost is messages that were carried out and answered whole, and a rest, which begins at this place; nothing else was written
 pub record Served (old new : Met) (entries : List Entry) (Rest : ℕ → List ℕ → Type 0) : Type 0 where
@@ -27,7 +27,7 @@ pub record Served (old new : Met) (entries : List Entry) (Rest : ℕ → List �
   pub taken : List ℕ
   pub rest : List ℕ
   pub lost : Consumes old.left new.left (taken ++ rest)
-  pub carried : Carried turns taken old.clock new.clock old.files new.files entries
+  pub carried : Carried turns taken old.clock new.clock old.shelf new.shelf entries
   pub replied : Goes (Replied (replies_of turns)) old.held new.held
   pub behind : Rest (length taken) rest
 
@@ -37,7 +37,7 @@ pub record Interrupted (old new : Met) (entries : List Entry) : Type 0 where
   pub last : Turn
   pub taken : List ℕ
   pub lost : Consumes old.left new.left taken
-  pub carried : Carried (turns ++ last ∷ []) taken old.clock new.clock old.files new.files entries
+  pub carried : Carried (turns ++ last ∷ []) taken old.clock new.clock old.shelf new.shelf entries
   pub wanted : last.message.head.kind ≢ oneway_kind
   pub replied : Goes (RepliedPart (replies_of turns) (turn_bytes last)) old.held new.held
 

@@ -8,7 +8,7 @@ ghost use Rattle.thrift_binary.specs.Taking.{start};
 ghost use Rattle.ms_calls.specs.declared.request.Asked.{Asked};
 ghost use Rattle.ms_session.specs.Requests.{CameUnderItsName};
 ghost use Rattle.ms_session.specs.Session.{Session, end_of_fault};
-ghost use Rattle.ms_session.specs.Turns.{Answers};
+ghost use Rattle.ms_session.specs.Turns.{Answers, shelf_of};
 
 use crate::carrying::carry_out;
 use crate::reply::gather_reply;
@@ -22,13 +22,15 @@ use std::alloc::Global;
 use thrift_binary::{SendFault, WireFault, WireReader, WireWriter};
 
 /// Carries out each message of the source at the desk, and answers it on the sink, unless it wants no
-/// reply. A call is one step of the desk at the clock's next moment; other callers may take any turns
-/// before it. Behind a message that asks for the end of the session nothing more is taken.
+/// reply. A call is one step of the desk at the clock's next moment, a trim is one step, and a dump is
+/// a walk of steps, which writes its files into the folder; other callers may take any turns before
+/// each step. After a message that asks for the end of the session nothing more is taken.
 ///
 /// Where memory is refused after a message was read, its reply says so, and the session goes on.
 /// Where it is refused while a message is read, or while that reply is made or written, or where
-/// the sink refuses it, the session ends. Nothing is carried out behind a reply that could not be
-/// written. The folder is left as it is: nothing that a message can ask so far needs it.
+/// the sink refuses it, the session ends. Nothing is carried out after a reply that could not be
+/// written. The folder stays as it is but for dumps; one that fails in the folder is answered by a
+/// refusal, and the session goes on.
 pub fn serve_session<S: Source, K: Sink, D: Desk, F: Folder, C: Clock>(
     alloc: Global,
     source: &mut S,
@@ -38,7 +40,7 @@ pub fn serve_session<S: Source, K: Sink, D: Desk, F: Folder, C: Clock>(
     clock: &mut C,
 ) -> End
     ensures session { Adds D.alone (D.caller desk.old) (D.history desk.old) (D.history desk.new) (λ own.
-        Session (record { left = S.left source.old; held = K.held sink.old; clock = C.moments clock.old; files = F.files folder.old }) (record { left = S.left source.new; held = K.held sink.new; clock = C.moments clock.new; files = F.files folder.new }) own result) }
+        Session (record { left = S.left source.old; held = K.held sink.old; clock = C.moments clock.old; shelf = shelf_of (F.files folder.old) (F.faults folder.old) }) (record { left = S.left source.new; held = K.held sink.new; clock = C.moments clock.new; shelf = shelf_of (F.files folder.new) (F.faults folder.new) }) own result) }
     ensures caller { D.caller desk.new ≡ D.caller desk.old }
     ensures start { D.start desk.new ≡ D.start desk.old }
     ensures legal { Legal (D.start desk.old) (D.history desk.old) → Legal (D.start desk.new) (D.history desk.new) }
@@ -50,7 +52,7 @@ pub fn serve_session<S: Source, K: Sink, D: Desk, F: Folder, C: Clock>(
     ensures write { result ≡ End.WriteFault → Rose (K.faults sink.old) (K.faults sink.new) }
     ensures source_stays { result ≢ End.ReadFault → S.faults source.new ≡ S.faults source.old }
     ensures sink_stays { result ≢ End.WriteFault → K.faults sink.new ≡ K.faults sink.old }
-    ensures folder { folder.new ≡ folder.old }
+    ensures folder_later { F.faults folder.old ≤ F.faults folder.new }
 {
     let mut reader = WireReader::new(source);
     answer_all(alloc, &mut reader, sink, desk, folder, clock)
@@ -68,7 +70,7 @@ fn answer_all<S: Source, K: Sink, D: Desk, F: Folder, C: Clock>(
     requires { reader.old.progress ≡ start }
     ensures same_source { reader.new.source.ghost_name ≡ reader.old.source.ghost_name }
     ensures session { Adds D.alone (D.caller desk.old) (D.history desk.old) (D.history desk.new) (λ own.
-        Session (record { left = S.left reader.old.source.now; held = K.held sink.old; clock = C.moments clock.old; files = F.files folder.old }) (record { left = S.left reader.new.source.now; held = K.held sink.new; clock = C.moments clock.new; files = F.files folder.new }) own result) }
+        Session (record { left = S.left reader.old.source.now; held = K.held sink.old; clock = C.moments clock.old; shelf = shelf_of (F.files folder.old) (F.faults folder.old) }) (record { left = S.left reader.new.source.now; held = K.held sink.new; clock = C.moments clock.new; shelf = shelf_of (F.files folder.new) (F.faults folder.new) }) own result) }
     ensures caller { D.caller desk.new ≡ D.caller desk.old }
     ensures start { D.start desk.new ≡ D.start desk.old }
     ensures legal { Legal (D.start desk.old) (D.history desk.old) → Legal (D.start desk.new) (D.history desk.new) }
@@ -80,7 +82,7 @@ fn answer_all<S: Source, K: Sink, D: Desk, F: Folder, C: Clock>(
     ensures write { result ≡ End.WriteFault → Rose (K.faults sink.old) (K.faults sink.new) }
     ensures source_stays { result ≢ End.ReadFault → S.faults reader.new.source.now ≡ S.faults reader.old.source.now }
     ensures sink_stays { result ≢ End.WriteFault → K.faults sink.new ≡ K.faults sink.old }
-    ensures folder { folder.new ≡ folder.old }
+    ensures folder_later { F.faults folder.old ≤ F.faults folder.new }
 {
     let mut writer = WireWriter::new(alloc);
     loop {
@@ -129,7 +131,7 @@ fn answer<K: Sink, D: Desk, F: Folder, C: Clock>(
     requires named { CameUnderItsName request }
     ensures emptied { OnOk result (writer.new ≡ []) }
     ensures answers { Adds D.alone (D.caller desk.old) (D.history desk.old) (D.history desk.new) (λ own.
-        Answers request own (C.moments clock.old) (C.moments clock.new) (F.files folder.old) (F.files folder.new) (K.held sink.old) (K.held sink.new) result) }
+        Answers request own (C.moments clock.old) (C.moments clock.new) (shelf_of (F.files folder.old) (F.faults folder.old)) (shelf_of (F.files folder.new) (F.faults folder.new)) (K.held sink.old) (K.held sink.new) result) }
     ensures caller { D.caller desk.new ≡ D.caller desk.old }
     ensures start { D.start desk.new ≡ D.start desk.old }
     ensures legal { Legal (D.start desk.old) (D.history desk.old) → Legal (D.start desk.new) (D.history desk.new) }
@@ -138,7 +140,7 @@ fn answer<K: Sink, D: Desk, F: Folder, C: Clock>(
     ensures clock_later { C.faults clock.old ≤ C.faults clock.new }
     ensures cause { IsErrOf result SendFault.WriteFault → Rose (K.faults sink.old) (K.faults sink.new) }
     ensures sink_stays { StaysBut SendFault.WriteFault result (K.faults sink.old) (K.faults sink.new) }
-    ensures folder { folder.new ≡ folder.old }
+    ensures folder_later { F.faults folder.old ≤ F.faults folder.new }
 {
     let Request {
         head,

@@ -1,4 +1,5 @@
 pub mod Database
+pub mod Dumps
 pub mod Getting
 pub mod Laws
 pub mod NotificationLaws

@@ -2,6 +2,7 @@
 #![tactic(auto)]
 
 mod database;
+mod dumps;
 mod from_wire;
 mod functions;
 mod got;
@@ -20,6 +21,7 @@ mod told_events;
 mod writing;
 
 pub use database::{DatabaseFields, read_database, write_database};
+pub use dumps::write_repl_dump_result;
 pub use from_wire::{FromWire, read_typed, skip_field};
 pub use functions::write_get_all_functions_response;
 pub use got::{Got, said_or_bad};
@@ -38,4 +40,5 @@ pub use pairs::PairsSoFar;
 pub use struct_fault::StructFault;
 pub use structs::{FieldSink, StructSink, read_slots, read_struct, read_whole};
 pub use to_wire::{ToWire, put_field, put_optional};
+pub use told_events::cut_long;
 pub use writing::{put_list, put_texts};

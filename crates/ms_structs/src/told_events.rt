@@ -7,7 +7,7 @@ ghost use Rattle.ms_structs.specs.Notifications.{cut_int, cut_long, event_table,
 use cat_types::{Event, EventKind, Op, Text};
 
 /// A number as an i64; a greater one is cut to the greatest.
-pub(crate) fn cut_long(number: u64) -> i64
+pub fn cut_long(number: u64) -> i64
     ensures { result ≡ cut_long number }
 {
     number.min(9_223_372_036_854_775_807) as i64

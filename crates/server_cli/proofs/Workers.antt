@@ -107,14 +107,14 @@ served_kind ar sessions start given back new served = by_case served.workers
     by_case (inr u) = inr (inl u.status_is)
 
 -- each worker's end has its cause
-each_end : {L F K : Type 0} (inputs : L → Option (List (List ℕ))) (returned : L → Option (List Returned)) (faults : L → ℕ) (files : F → Option Files) (moments : K → Option (List ℕ)) (sessions : Option ℕ) (log : List Entry) (n : ℕ) (ls : List L) (fs : List F) (ks : List K) (done : List (Done L F K))
-    → length fs ≡ length ls → length ks ≡ length ls → AllDid (around inputs returned faults files moments) sessions log n (posts_of ls fs ks) done → EachEnd faults (map (λ d. d.status) done) ls (map (λ d. d.post.listener) done)
-each_end inputs returned faults files moments sessions log n ls fs ks [] f k did = tt
-each_end inputs returned faults files moments sessions log n [] fs ks (d ∷ ds) f k did = absurd did
-each_end inputs returned faults files moments sessions log n (l ∷ ls) [] ks (d ∷ ds) f k did = absurd (omega (arith, f))
-each_end inputs returned faults files moments sessions log n (l ∷ ls) (x ∷ fs) [] (d ∷ ds) f k did = absurd (omega (arith, k))
-each_end inputs returned faults files moments sessions log n (l ∷ ls) (x ∷ fs) (y ∷ ks) (d ∷ ds) f k did =
-    (did.0.worked.kind, did.0.worked.fault, each_end inputs returned faults files moments sessions log (suc n) ls fs ks ds (omega (arith, f)) (omega (arith, k)) did.1)
+each_end : {L F K : Type 0} (inputs : L → Option (List (List ℕ))) (returned : L → Option (List Returned)) (faults : L → ℕ) (files : F → Option Files) (folder_faults : F → ℕ) (moments : K → Option (List ℕ)) (sessions : Option ℕ) (log : List Entry) (n : ℕ) (ls : List L) (fs : List F) (ks : List K) (done : List (Done L F K))
+    → length fs ≡ length ls → length ks ≡ length ls → AllDid (around inputs returned faults files folder_faults moments) sessions log n (posts_of ls fs ks) done → EachEnd faults (map (λ d. d.status) done) ls (map (λ d. d.post.listener) done)
+each_end inputs returned faults files folder_faults moments sessions log n ls fs ks [] f k did = tt
+each_end inputs returned faults files folder_faults moments sessions log n [] fs ks (d ∷ ds) f k did = absurd did
+each_end inputs returned faults files folder_faults moments sessions log n (l ∷ ls) [] ks (d ∷ ds) f k did = absurd (omega (arith, f))
+each_end inputs returned faults files folder_faults moments sessions log n (l ∷ ls) (x ∷ fs) [] (d ∷ ds) f k did = absurd (omega (arith, k))
+each_end inputs returned faults files folder_faults moments sessions log n (l ∷ ls) (x ∷ fs) (y ∷ ks) (d ∷ ds) f k did =
+    (did.0.worked.kind, did.0.worked.fault, each_end inputs returned faults files folder_faults moments sessions log (suc n) ls fs ks ds (omega (arith, f)) (omega (arith, k)) did.1)
 
 -- where the first fault is 12, one of the listeners counted a fault
 one_rose : {L : Type 0} (faults : L → ℕ) (ends : List ℕ) (old new : List L) → EachEnd faults ends old new → first_fault ends ≡ 12 → OneRose faults old new
@@ -129,33 +129,33 @@ map_length : {X Y : Type 0} (f : X → Y) (xs : List X) → length (map f xs) �
 map_length f [] = refl
 map_length f (x ∷ xs) = ap suc (map_length f xs)
 
-module _ {L F K : Type 0} (inputs : L → Option (List (List ℕ))) (returned : L → Option (List Returned)) (faults : L → ℕ) (files : F → Option Files) (moments : K → Option (List ℕ))
-    (sessions : Option ℕ) (start : Start) (given : Given L F K) (back : Back L F) (new : Disks) (served : Served (around inputs returned faults files moments) sessions start given back new)
+module _ {L F K : Type 0} (inputs : L → Option (List (List ℕ))) (returned : L → Option (List Returned)) (faults : L → ℕ) (files : F → Option Files) (folder_faults : F → ℕ) (moments : K → Option (List ℕ))
+    (sessions : Option ℕ) (start : Start) (given : Given L F K) (back : Back L F) (new : Disks) (served : Served (around inputs returned faults files folder_faults moments) sessions start given back new)
     (folders : length given.folders ≡ length given.listeners) (clocks : length given.clocks ≡ length given.listeners) where
   pub served_ends : EachEnd faults back.ends given.listeners back.listeners
   served_ends = by_case served.workers
     where
-      by_case : Manned (around inputs returned faults files moments) sessions served.log given back ⊎ Unmanned served.log given back → EachEnd faults back.ends given.listeners back.listeners
-      by_case (inl m) = rw (m.ends_are, m.listeners_are) (each_end inputs returned faults files moments sessions served.log 1 given.listeners given.folders given.clocks m.done folders clocks m.did)
+      by_case : Manned (around inputs returned faults files folder_faults moments) sessions served.log given back ⊎ Unmanned served.log given back → EachEnd faults back.ends given.listeners back.listeners
+      by_case (inl m) = rw (m.ends_are, m.listeners_are) (each_end inputs returned faults files folder_faults moments sessions served.log 1 given.listeners given.folders given.clocks m.done folders clocks m.did)
       by_case (inr u) = rw u.idle.no_ends tt
 
   pub served_listener : back.status ≡ 12 → OneRose faults given.listeners back.listeners
   served_listener twelve = by_case served.workers
     where
-      by_case : Manned (around inputs returned faults files moments) sessions served.log given back ⊎ Unmanned served.log given back → OneRose faults given.listeners back.listeners
+      by_case : Manned (around inputs returned faults files folder_faults moments) sessions served.log given back ⊎ Unmanned served.log given back → OneRose faults given.listeners back.listeners
       by_case (inl m) = one_rose faults back.ends given.listeners back.listeners served_ends (sym m.status_is ∙ twelve)
       by_case (inr u) = absurd (omega (arith, sym u.status_is ∙ twelve))
 
   pub served_listeners : length back.listeners ≡ length given.listeners
   served_listeners = by_case served.workers
     where
-      by_case : Manned (around inputs returned faults files moments) sessions served.log given back ⊎ Unmanned served.log given back → length back.listeners ≡ length given.listeners
-      by_case (inl m) = ap (λ (l : List L). length l) m.listeners_are ∙ map_length (λ d. d.post.listener) m.done ∙ did_length (around inputs returned faults files moments) sessions served.log 1 (posts_of given.listeners given.folders given.clocks) m.done m.did ∙ posts_length given.listeners given.folders given.clocks folders clocks
+      by_case : Manned (around inputs returned faults files folder_faults moments) sessions served.log given back ⊎ Unmanned served.log given back → length back.listeners ≡ length given.listeners
+      by_case (inl m) = ap (λ (l : List L). length l) m.listeners_are ∙ map_length (λ d. d.post.listener) m.done ∙ did_length (around inputs returned faults files folder_faults moments) sessions served.log 1 (posts_of given.listeners given.folders given.clocks) m.done m.did ∙ posts_length given.listeners given.folders given.clocks folders clocks
       by_case (inr u) = ap (λ (l : List L). length l) u.idle.listeners_stay
 
   pub served_folders : length back.folders ≡ length given.folders
   served_folders = by_case served.workers
     where
-      by_case : Manned (around inputs returned faults files moments) sessions served.log given back ⊎ Unmanned served.log given back → length back.folders ≡ length given.folders
-      by_case (inl m) = ap (λ (l : List F). length l) m.folders_are ∙ map_length (λ d. d.post.folder) m.done ∙ did_length (around inputs returned faults files moments) sessions served.log 1 (posts_of given.listeners given.folders given.clocks) m.done m.did ∙ posts_length given.listeners given.folders given.clocks folders clocks ∙ sym folders
+      by_case : Manned (around inputs returned faults files folder_faults moments) sessions served.log given back ⊎ Unmanned served.log given back → length back.folders ≡ length given.folders
+      by_case (inl m) = ap (λ (l : List F). length l) m.folders_are ∙ map_length (λ d. d.post.folder) m.done ∙ did_length (around inputs returned faults files folder_faults moments) sessions served.log 1 (posts_of given.listeners given.folders given.clocks) m.done m.did ∙ posts_length given.listeners given.folders given.clocks folders clocks ∙ sym folders
       by_case (inr u) = ap (λ (l : List F). length l) u.idle.folders_stay

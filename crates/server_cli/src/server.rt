@@ -65,7 +65,7 @@ where
     requires folders { vec_len folders ≡ vec_len listeners }
     requires clocks { vec_len clocks ≡ vec_len listeners }
     requires workers { (asked : Serving) → Asks (map string_bytes words.now) asked → vec_len listeners ≡ asked.workers }
-    ensures serves { Serves (around L.inputs L.returned L.faults F.files C.moments) (map string_bytes words.now) (record { listeners = listeners.items; folders = folders.items; clocks = clocks.items }) (back_of result) (both_seen D.lies D.past D.faults disk_a disk_b) (both_seen D.lies D.past D.faults result.disk_a result.disk_b) }
+    ensures serves { Serves (around L.inputs L.returned L.faults F.files F.faults C.moments) (map string_bytes words.now) (record { listeners = listeners.items; folders = folders.items; clocks = clocks.items }) (back_of result) (both_seen D.lies D.past D.faults disk_a disk_b) (both_seen D.lies D.past D.faults result.disk_a result.disk_b) }
     ensures usage { result.status ≡ 2 → (asked : Serving) → Asks (map string_bytes words.now) asked → ⊥ }
     ensures disk { result.status ≡ 5 → Rose (D.faults disk_a) (D.faults result.disk_a) }
     ensures store { result.status ≡ 6 → IfSome (D.lies disk_a) (λ d. IsForeign d.held ⊎ ((at : ℕ) × IsBrokenStore at d.held)) }
@@ -125,7 +125,7 @@ where
     requires few { (0 < vec_len listeners) × (vec_len listeners < 4294967294) }
     requires folders { vec_len folders ≡ vec_len listeners }
     requires clocks { vec_len clocks ≡ vec_len listeners }
-    ensures { Served (around L.inputs L.returned L.faults F.files C.moments) sessions engine.start (record { listeners = listeners.items; folders = folders.items; clocks = clocks.items }) (back_of result) (both_seen D.lies D.past D.faults result.disk_a result.disk_b) }
+    ensures { Served (around L.inputs L.returned L.faults F.files F.faults C.moments) sessions engine.start (record { listeners = listeners.items; folders = folders.items; clocks = clocks.items }) (back_of result) (both_seen D.lies D.past D.faults result.disk_a result.disk_b) }
 {
     let count = listeners.len();
     let Some(mut posts) = with_posts(alloc, count) else {
@@ -162,7 +162,7 @@ where
     requires fresh { engine.history ≡ [] }
     requires few { (0 < vec_len posts) × (vec_len posts < 4294967294) }
     requires room { HasRoom (vec_len posts) lists }
-    ensures { (given : Given L F C) → ArePosts given posts.items → Served (around L.inputs L.returned L.faults F.files C.moments) sessions engine.start given (back_of result) (both_seen D.lies D.past D.faults result.disk_a result.disk_b) }
+    ensures { (given : Given L F C) → ArePosts given posts.items → Served (around L.inputs L.returned L.faults F.files F.faults C.moments) sessions engine.start given (back_of result) (both_seen D.lies D.past D.faults result.disk_a result.disk_b) }
 {
     match run_workers(rt, alloc, engine, gate, sessions, posts) {
         Ok((engine, crew)) => {

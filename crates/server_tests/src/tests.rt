@@ -1,6 +1,6 @@
 //! What words are planned to, and two workers at one store.
 
-use crate::given::{store, two, words_of};
+use crate::given::{LIST, places, store, words_of};
 use ms_server::FreeGate;
 use server_cli::{Plan, plan, run_server};
 
@@ -17,7 +17,7 @@ fn two_workers_serve_a_session_each(rt: HostRuntime) {
     let alloc = rt.alloc();
     let (Ok(words), Ok((listeners, folders, clocks)), Some((disk_a, disk_b))) = (
         words_of(alloc, "serve --port 9083 --workers 2 --sessions 1"),
-        two(alloc),
+        places(alloc, &[&[LIST; 10], &[LIST; 10]]),
         store(alloc),
     ) else {
         panic!(rt; "memory for the server");

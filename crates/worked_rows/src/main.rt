@@ -1,7 +1,8 @@
 //! Runs the worked rows of the metastore's top call: whole sessions by their bytes, what befalls a
-//! session outside, and what runs and crashes leave of a store.
+//! session outside, what runs and crashes leave of a store, and what commands leave one after the other.
 #![tactic(auto)]
 
+mod commands;
 mod disks;
 mod faults;
 mod running;
@@ -9,6 +10,7 @@ mod sessions;
 mod showing;
 mod stores;
 
+use commands::Commands;
 use faults::Faults;
 use sessions::{Sessions, SessionsAt};
 use std::process::ExitCode;
@@ -35,5 +37,6 @@ fn run(rt: &(impl Files + Print + AllocGlobal)) -> Result<(), Unable> {
     run_table(rt, "statistics", &Sessions)?;
     run_table(rt, "moments", &SessionsAt)?;
     run_table(rt, "faults", &Faults)?;
-    run_table(rt, "stores", &Stores)
+    run_table(rt, "stores", &Stores)?;
+    run_table(rt, "commands", &Commands)
 }

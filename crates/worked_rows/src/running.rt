@@ -2,7 +2,7 @@
 
 use crate::disks::disk_of;
 use cat_values::Bytes;
-use hms_outside::{Clock, MemClock, MemDisk, MemFolder, MemSink, MemSource, Sink, Source};
+use hms_outside::{Clock, Folder, MemClock, MemDisk, MemFolder, MemSink, MemSource, Sink, Source};
 use ms_cli::{LocalEnd, run_local};
 use std::alloc::{AllocError, Global};
 use table_cases::{Unable, bytes_of};
@@ -33,6 +33,26 @@ impl Stage {
             folder: MemFolder::new(alloc, Vec::new(alloc)),
             clock: MemClock::new(moments),
         }
+    }
+
+    /// A stage without words, over a folder whose calls with these numbers, from 0, fail.
+    pub fn failing(alloc: Global, fails: Vec<u64>) -> Result<Stage, AllocError> {
+        let source = MemSource::new(Bytes::new(alloc), Vec::new(alloc));
+        let mut stage = Stage::new(alloc, Vec::new(alloc), source)?;
+        stage.folder = MemFolder::new(alloc, fails);
+        Ok(stage)
+    }
+
+    /// Other words and another source, for a run at the same folder and clock.
+    pub fn begin(&mut self, alloc: Global, words: Vec<String>, source: MemSource) {
+        self.words = words;
+        self.source = source;
+        self.errors = MemSink::new(alloc, Vec::new(alloc));
+    }
+
+    /// The bytes of a file in the folder.
+    pub fn file(&mut self, name: &str) -> Result<Option<Bytes>, Unable> {
+        self.folder.get(name).or(Err(Unable::Outside))
     }
 
     /// Runs the top call over this disk A, and gives its status with the disks.

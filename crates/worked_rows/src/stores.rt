@@ -125,8 +125,8 @@ fn disk_laid(alloc: Global, laid: Laid<'_>) -> Result<MemDisk, Unable> {
     disk_of(alloc, bytes.as_slice(), &numbers_of(alloc, laid.fails)?)
 }
 
-// The numbers that a text has with blanks between them; `-` is none.
-fn numbers_of(alloc: Global, text: &str) -> Result<Vec<u64>, Unable> {
+/// The numbers that a text has with blanks between them; `-` is none.
+pub fn numbers_of(alloc: Global, text: &str) -> Result<Vec<u64>, Unable> {
     let mut numbers = Vec::new(alloc);
     if text != "-" {
         for number in text.split(' ') {

@@ -6,6 +6,5 @@ invariant-loop g l =
     record {
       within : l.counter ≤ l.workers;
       doors : vec_len l.doors ≡ l.counter;
-      folders : vec_len l.folders ≡ l.counter;
       clocks : vec_len l.clocks ≡ l.counter;
     }

@@ -1,5 +1,5 @@
 use Rattle.ms_structs.proofs.Getting.{gets_unspent}
-use Rattle.ms_calls.proofs.CanBeReplied.{read_fits, fits_plain, fits_client}
+use Rattle.ms_calls.proofs.CanBeReplied.{read_fits, fits_plain, fits_client, fits_own}
 use Rattle.ms_calls.proofs.asking.asked_by.Goals as goal
 
 pub returns-clause-unspent : goal.returns-clause-unspent
@@ -10,3 +10,6 @@ returns-clause-plain g c = fits_plain _ c.read_asked.result (read_fits _ _ _ _ _
 
 pub returns-clause-client : goal.returns-clause-client
 returns-clause-client g c = fits_client _ c.read_asked.result (read_fits _ _ _ _ _ c.read_asked.result _ _ c.read_asked.ensures.reads)
+
+pub returns-clause-own : goal.returns-clause-own
+returns-clause-own g c = fits_own _ c.read_asked.result (read_fits _ _ _ _ _ c.read_asked.result _ _ c.read_asked.ensures.reads)

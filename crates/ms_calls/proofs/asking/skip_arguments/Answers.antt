@@ -1,4 +1,3 @@
-use Rattle.std.proofs.Common.{refl}
 use Rattle.std.proofs.lemmas.Result.{err_from_is_err_and}
 use Rattle.thrift_binary.proofs.Reading.{Took-weaker}
 use Rattle.ms_calls.proofs.Structs.{is_struct, struct_fails}

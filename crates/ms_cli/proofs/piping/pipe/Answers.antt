@@ -1,22 +1,15 @@
 use Rattle.std.proofs.Common.{inl, inr, refl, ap, ◌∙◌}
 use Rattle.ms_cli.specs.Keeping.{seen}
-use Rattle.ms_cli.proofs.Opened.{piped}
-use Rattle.ms_cli.proofs.Refusing.{opening_store, unopened}
+use Rattle.ms_cli.proofs.Opened.{opened}
+use Rattle.ms_cli.proofs.Refusing.{unopened}
 use Rattle.ms_cli.proofs.piping.pipe.Goals as goal
 
 pub returns-in-Ok-clause-did : goal.returns-in-Ok-clause-did
 returns-in-Ok-clause-did g c =
-    inl (piped _ (record {
-      met = record { left = g.S.Source.left c.args.input.now; held = g.K.Sink.held c.args.output.now; clock = g.C.Clock.moments c.args.clock.now; files = g.F.Folder.files c.args.folder.now };
-      errors = record { held = g.E.Sink.held c.args.errors.now; faults = g.E.Sink.faults c.args.errors.now };
-      disk_a = seen g.D.Disk.lies g.D.Disk.past g.D.Disk.faults c.in-Ok.engine.disk_a;
-      disk_b = seen g.D.Disk.lies g.D.Disk.past g.D.Disk.faults c.in-Ok.engine.disk_b;
-    }) _ _ c.in-Ok.engine.start c.in-Ok.ensures.opens c.in-Ok.ensures.fault c.in-Ok.ensures.later (ap (seen g.D.Disk.lies g.D.Disk.past g.D.Disk.faults) c.in-Ok.ensures.disk_b) c.in-Ok.ensures.past c.in-Ok.ensures.reopened c.in-Ok.ensures.went refl refl c.serve.ensures.served)
+    inl (opened _ _ _ (seen g.D.Disk.lies g.D.Disk.past g.D.Disk.faults c.in-Ok.engine.disk_a) (seen g.D.Disk.lies g.D.Disk.past g.D.Disk.faults c.in-Ok.engine.disk_b)
+    c.in-Ok.engine.start c.in-Ok.ensures.opens c.in-Ok.ensures.fault c.in-Ok.ensures.later (ap (seen g.D.Disk.lies g.D.Disk.past g.D.Disk.faults) c.in-Ok.ensures.disk_b) c.in-Ok.ensures.past c.in-Ok.ensures.reopened c.in-Ok.ensures.went (c.serve.ensures.worked _ _))
 
 pub returns-in-Err-clause-did : goal.returns-in-Err-clause-did
 returns-in-Err-clause-did g c =
     inr (unopened c.in-Err.fault _ _ _ _ (ap (seen g.D.Disk.lies g.D.Disk.past g.D.Disk.faults) c.refuse.ensures.disk_a) c.in-Err.ensures.kind c.in-Err.ensures.foreign c.in-Err.ensures.broken c.in-Err.ensures.cause
     c.in-Err.ensures.outage c.in-Err.ensures.held c.in-Err.ensures.went refl (ap (seen g.D.Disk.lies g.D.Disk.past g.D.Disk.faults) (c.refuse.ensures.disk_b ∙ c.in-Err.ensures.disk_b)) c.refuse.ensures.told c.refuse.ensures.status)
-
-pub returns-in-Err-clause-store : goal.returns-in-Err-clause-store
-returns-in-Err-clause-store g c = opening_store c.in-Err.fault _ _ c.in-Err.ensures.kind c.in-Err.ensures.foreign c.in-Err.ensures.broken c.refuse.ensures.status

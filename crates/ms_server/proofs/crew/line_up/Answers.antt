@@ -1,4 +1,4 @@
-use Rattle.std.proofs.Common.{rules, ◌≡◌, ◌+◌, ◌∙◌, ap, subst, sym, arith, vec_len}
+use Rattle.std.proofs.Common.{rules, ◌≡◌, ◌+◌, ◌∙◌, ap, subst, sym, vec_len}
 use Rattle.std.specs.Prelude.{slice_index_or}
 use Rattle.turn_lock.specs.Passes.{caller_of, seen_of}
 use Rattle.ms_server.specs.Crews.{Ready}

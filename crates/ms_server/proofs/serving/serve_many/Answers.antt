@@ -1,4 +1,4 @@
-use Rattle.std.proofs.Common.{rules, refl, ◌∙◌}
+use Rattle.std.proofs.Common.{refl, ◌∙◌}
 use Rattle.desk.proofs.Additions.{adds_none}
 use Rattle.ms_server.proofs.Chains.{run_ends, run_more, served_none}
 use Rattle.ms_server.proofs.serving.serve_many.Goals as goal

@@ -1,4 +1,4 @@
-use Rattle.std.proofs.Common.{rules, ◌≡◌, ◌+◌, ◌∙◌, ap, subst, sym, arith, take, vec_len, length}
+use Rattle.std.proofs.Common.{rules, ◌≡◌, ◌∙◌, ap, subst, sym, arith, take, vec_len, length}
 use Rattle.turn_lock.specs.Passes.{caller_of, seen_of, joined_of}
 use Rattle.ms_server.specs.Crews.{AllJoined, Ran}
 use Rattle.ms_server.specs.Visits.{around}
@@ -8,7 +8,7 @@ use Rattle.ms_server.proofs.worker.gather.Goals as goal
 
 pub loop-worker-init : goal.loop-worker-init
 loop-worker-init g c =
-    let ar = around g.L.Listener.inputs g.L.Listener.returned g.L.Listener.faults g.F.Folder.files g.K.Clock.moments in
+    let ar = around g.L.Listener.inputs g.L.Listener.returned g.L.Listener.faults g.F.Folder.files g.F.Folder.faults g.K.Clock.moments in
     let posts = c.args._posts.now.value.items in
     let crew = c.args.crew.now in
     let none : vec_len crew.done ≡ 0 = crew.done.ok.0 ∙ ap (λ l. length l) c.requires.none.0 in
@@ -27,7 +27,7 @@ loop-worker-init g c =
 
 pub loop-worker-preserved : goal.loop-worker-preserved
 loop-worker-preserved g c =
-    let ar = around g.L.Listener.inputs g.L.Listener.returned g.L.Listener.faults g.F.Folder.files g.K.Clock.moments in
+    let ar = around g.L.Listener.inputs g.L.Listener.returned g.L.Listener.faults g.F.Folder.files g.F.Folder.faults g.K.Clock.moments in
     let posts = c.args._posts.now.value.items in
     let i = c.loop-worker.invariant in
     let workers = c.loop-worker.workers in

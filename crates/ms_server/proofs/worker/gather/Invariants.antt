@@ -17,8 +17,8 @@ invariant-loop-worker g l =
       splits : splits_of l.first ≡ splits_of l.fn.first;
       joins : joins_of l.first + deque_len l.workers ≡ joins_of l.fn.first + deque_len l.fn.workers;
       len : vec_len l.crew.done + deque_len l.workers ≡ length l.fn._posts.value.items;
-      ran : PlacedFrom (vec_len l.crew.done) (λ k w. Ran (around g.L.Listener.inputs g.L.Listener.returned g.L.Listener.faults g.F.Folder.files g.K.Clock.moments) l.fn._sessions l.fn._posts.value.items k (caller_of w.desk.pass) w.post w.status (seen_of w.desk.pass)) l.workers.items;
-      joined : AllJoined (around g.L.Listener.inputs g.L.Listener.returned g.L.Listener.faults g.F.Folder.files g.K.Clock.moments) l.fn._sessions 1 (take (vec_len l.crew.done) l.fn._posts.value.items) (joined_of l.first) l.crew.done.items;
+      ran : PlacedFrom (vec_len l.crew.done) (λ k w. Ran (around g.L.Listener.inputs g.L.Listener.returned g.L.Listener.faults g.F.Folder.files g.F.Folder.faults g.K.Clock.moments) l.fn._sessions l.fn._posts.value.items k (caller_of w.desk.pass) w.post w.status (seen_of w.desk.pass)) l.workers.items;
+      joined : AllJoined (around g.L.Listener.inputs g.L.Listener.returned g.L.Listener.faults g.F.Folder.files g.F.Folder.faults g.K.Clock.moments) l.fn._sessions 1 (take (vec_len l.crew.done) l.fn._posts.value.items) (joined_of l.first) l.crew.done.items;
       steps : l.crew.steps ≡ all_calls (joined_of l.first) % 2 ^ 64;
     }
 

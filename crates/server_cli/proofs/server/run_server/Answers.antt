@@ -30,49 +30,49 @@ returns-in-Ok-clause-serves g c =
     inr (
       c.in-Some.serving,
       c.in-Some.ensures.asked,
-      inl (opened (around g.L.Listener.inputs g.L.Listener.returned g.L.Listener.faults g.F.Folder.files g.C.Clock.moments) c.in-Some.serving.sessions _ _ _
+      inl (opened (around g.L.Listener.inputs g.L.Listener.returned g.L.Listener.faults g.F.Folder.files g.F.Folder.faults g.C.Clock.moments) c.in-Some.serving.sessions _ _ _
           (both_seen g.D.Disk.lies g.D.Disk.past g.D.Disk.faults c.in-Ok.engine.disk_a c.in-Ok.engine.disk_b) _ c.in-Ok.engine.start
           c.in-Ok.ensures.opens c.in-Ok.ensures.fault c.in-Ok.ensures.later (ap (seen g.D.Disk.lies g.D.Disk.past g.D.Disk.faults) c.in-Ok.ensures.disk_b) c.in-Ok.ensures.past c.in-Ok.ensures.reopened c.in-Ok.ensures.went c.serve.ensures),
     )
 
 pub returns-in-Ok-clause-usage : goal.returns-in-Ok-clause-usage
 returns-in-Ok-clause-usage g c = λ is.
-    absurd (no_end _ 2 (served_kind (around g.L.Listener.inputs g.L.Listener.returned g.L.Listener.faults g.F.Folder.files g.C.Clock.moments) c.in-Some.serving.sessions c.in-Ok.engine.start _ _ _ c.serve.ensures) is (λ e. absurd (omega (arith, e))) (λ e. absurd (omega (arith, e))) (λ e. absurd (omega (arith, e))))
+    absurd (no_end _ 2 (served_kind (around g.L.Listener.inputs g.L.Listener.returned g.L.Listener.faults g.F.Folder.files g.F.Folder.faults g.C.Clock.moments) c.in-Some.serving.sessions c.in-Ok.engine.start _ _ _ c.serve.ensures) is (λ e. absurd (omega (arith, e))) (λ e. absurd (omega (arith, e))) (λ e. absurd (omega (arith, e))))
 
 pub returns-in-Ok-clause-disk : goal.returns-in-Ok-clause-disk
 returns-in-Ok-clause-disk g c = λ is.
-    absurd (no_end _ 5 (served_kind (around g.L.Listener.inputs g.L.Listener.returned g.L.Listener.faults g.F.Folder.files g.C.Clock.moments) c.in-Some.serving.sessions c.in-Ok.engine.start _ _ _ c.serve.ensures) is (λ e. absurd (omega (arith, e))) (λ e. absurd (omega (arith, e))) (λ e. absurd (omega (arith, e))))
+    absurd (no_end _ 5 (served_kind (around g.L.Listener.inputs g.L.Listener.returned g.L.Listener.faults g.F.Folder.files g.F.Folder.faults g.C.Clock.moments) c.in-Some.serving.sessions c.in-Ok.engine.start _ _ _ c.serve.ensures) is (λ e. absurd (omega (arith, e))) (λ e. absurd (omega (arith, e))) (λ e. absurd (omega (arith, e))))
 
 pub returns-in-Ok-clause-store : goal.returns-in-Ok-clause-store
 returns-in-Ok-clause-store g c = λ is.
-    absurd (no_end _ 6 (served_kind (around g.L.Listener.inputs g.L.Listener.returned g.L.Listener.faults g.F.Folder.files g.C.Clock.moments) c.in-Some.serving.sessions c.in-Ok.engine.start _ _ _ c.serve.ensures) is (λ e. absurd (omega (arith, e))) (λ e. absurd (omega (arith, e))) (λ e. absurd (omega (arith, e))))
+    absurd (no_end _ 6 (served_kind (around g.L.Listener.inputs g.L.Listener.returned g.L.Listener.faults g.F.Folder.files g.F.Folder.faults g.C.Clock.moments) c.in-Some.serving.sessions c.in-Ok.engine.start _ _ _ c.serve.ensures) is (λ e. absurd (omega (arith, e))) (λ e. absurd (omega (arith, e))) (λ e. absurd (omega (arith, e))))
 
 pub returns-in-Ok-clause-disk_a : goal.returns-in-Ok-clause-disk_a
 returns-in-Ok-clause-disk_a g c = λ is.
-    absurd (no_end _ 2 (served_kind (around g.L.Listener.inputs g.L.Listener.returned g.L.Listener.faults g.F.Folder.files g.C.Clock.moments) c.in-Some.serving.sessions c.in-Ok.engine.start _ _ _ c.serve.ensures) is (λ e. absurd (omega (arith, e))) (λ e. absurd (omega (arith, e))) (λ e. absurd (omega (arith, e))))
+    absurd (no_end _ 2 (served_kind (around g.L.Listener.inputs g.L.Listener.returned g.L.Listener.faults g.F.Folder.files g.F.Folder.faults g.C.Clock.moments) c.in-Some.serving.sessions c.in-Ok.engine.start _ _ _ c.serve.ensures) is (λ e. absurd (omega (arith, e))) (λ e. absurd (omega (arith, e))) (λ e. absurd (omega (arith, e))))
 
 pub returns-in-Ok-clause-disk_b : goal.returns-in-Ok-clause-disk_b
 returns-in-Ok-clause-disk_b g c = λ is.
-    absurd (no_end _ 2 (served_kind (around g.L.Listener.inputs g.L.Listener.returned g.L.Listener.faults g.F.Folder.files g.C.Clock.moments) c.in-Some.serving.sessions c.in-Ok.engine.start _ _ _ c.serve.ensures) is (λ e. absurd (omega (arith, e))) (λ e. absurd (omega (arith, e))) (λ e. absurd (omega (arith, e))))
+    absurd (no_end _ 2 (served_kind (around g.L.Listener.inputs g.L.Listener.returned g.L.Listener.faults g.F.Folder.files g.F.Folder.faults g.C.Clock.moments) c.in-Some.serving.sessions c.in-Ok.engine.start _ _ _ c.serve.ensures) is (λ e. absurd (omega (arith, e))) (λ e. absurd (omega (arith, e))) (λ e. absurd (omega (arith, e))))
 
 pub returns-in-Ok-clause-listener : goal.returns-in-Ok-clause-listener
 returns-in-Ok-clause-listener g c =
-    served_listener g.L.Listener.inputs g.L.Listener.returned g.L.Listener.faults g.F.Folder.files g.C.Clock.moments c.in-Some.serving.sessions c.in-Ok.engine.start _ _ _ c.serve.ensures
+    served_listener g.L.Listener.inputs g.L.Listener.returned g.L.Listener.faults g.F.Folder.files g.F.Folder.faults g.C.Clock.moments c.in-Some.serving.sessions c.in-Ok.engine.start _ _ _ c.serve.ensures
     (sym c.args.folders.ok.0 ∙ c.requires.folders ∙ c.args.listeners.ok.0) (sym c.args.clocks.ok.0 ∙ c.requires.clocks ∙ c.args.listeners.ok.0)
 
 pub returns-in-Ok-clause-ends : goal.returns-in-Ok-clause-ends
 returns-in-Ok-clause-ends g c =
-    served_ends g.L.Listener.inputs g.L.Listener.returned g.L.Listener.faults g.F.Folder.files g.C.Clock.moments c.in-Some.serving.sessions c.in-Ok.engine.start _ _ _ c.serve.ensures
+    served_ends g.L.Listener.inputs g.L.Listener.returned g.L.Listener.faults g.F.Folder.files g.F.Folder.faults g.C.Clock.moments c.in-Some.serving.sessions c.in-Ok.engine.start _ _ _ c.serve.ensures
     (sym c.args.folders.ok.0 ∙ c.requires.folders ∙ c.args.listeners.ok.0) (sym c.args.clocks.ok.0 ∙ c.requires.clocks ∙ c.args.listeners.ok.0)
 
 pub returns-in-Ok-clause-listeners : goal.returns-in-Ok-clause-listeners
 returns-in-Ok-clause-listeners g c =
-    c.serve.result.listeners.ok.0 ∙ served_listeners g.L.Listener.inputs g.L.Listener.returned g.L.Listener.faults g.F.Folder.files g.C.Clock.moments c.in-Some.serving.sessions c.in-Ok.engine.start _ _ _ c.serve.ensures
+    c.serve.result.listeners.ok.0 ∙ served_listeners g.L.Listener.inputs g.L.Listener.returned g.L.Listener.faults g.F.Folder.files g.F.Folder.faults g.C.Clock.moments c.in-Some.serving.sessions c.in-Ok.engine.start _ _ _ c.serve.ensures
     (sym c.args.folders.ok.0 ∙ c.requires.folders ∙ c.args.listeners.ok.0) (sym c.args.clocks.ok.0 ∙ c.requires.clocks ∙ c.args.listeners.ok.0) ∙ sym c.args.listeners.ok.0
 
 pub returns-in-Ok-clause-folders : goal.returns-in-Ok-clause-folders
 returns-in-Ok-clause-folders g c =
-    c.serve.result.folders.ok.0 ∙ served_folders g.L.Listener.inputs g.L.Listener.returned g.L.Listener.faults g.F.Folder.files g.C.Clock.moments c.in-Some.serving.sessions c.in-Ok.engine.start _ _ _ c.serve.ensures
+    c.serve.result.folders.ok.0 ∙ served_folders g.L.Listener.inputs g.L.Listener.returned g.L.Listener.faults g.F.Folder.files g.F.Folder.faults g.C.Clock.moments c.in-Some.serving.sessions c.in-Ok.engine.start _ _ _ c.serve.ensures
     (sym c.args.folders.ok.0 ∙ c.requires.folders ∙ c.args.listeners.ok.0) (sym c.args.clocks.ok.0 ∙ c.requires.clocks ∙ c.args.listeners.ok.0) ∙ sym c.args.folders.ok.0
 
 pub returns-in-Err-clause-serves : goal.returns-in-Err-clause-serves

@@ -1,0 +1,17 @@
+pub mod Staying
+pub mod Fitting
+pub mod Putting
+pub mod Writing
+pub mod Lasts
+pub mod Standing
+pub mod Growing
+pub mod Stepping
+pub mod Opening
+pub mod Turning
+pub mod Stopping
+pub mod Nearing
+pub mod Taking
+pub mod Ending
+pub mod NotOpen
+pub mod Joining
+pub mod Closing

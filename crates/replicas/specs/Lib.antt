@@ -1,0 +1,14 @@
+pub mod Objects
+pub mod Operations
+pub mod Replay
+pub mod Source
+pub mod Keeping
+pub mod Stands
+pub mod Life
+pub mod Catalogues
+pub mod Histories
+pub mod Stores
+pub mod Tests
+pub mod Laws
+pub mod StoreLaws
+pub mod Example
